@@ -1,0 +1,5 @@
+pub mod Numbers
+pub mod Forms
+pub mod Trips
+pub mod Moves
+pub mod Walks
