@@ -14,6 +14,13 @@ use crate::message::Message;
 use crate::message::Summary;
 use crate::message::Update;
 
+// The byte at a place; past the end, 0.
+pub fn byte_at(bytes: &[u8], place: usize) -> u8
+    ensures { λ r. ⌜ r ≡ getD (now (bytes .entry)) place 0 ⌝ }
+{
+    if place < bytes.len() { bytes[place] } else { 0 }
+}
+
 fn u16_at(s: &[u8], at: usize) -> u16
     requires { ⌜ at + 2 ≤ length (now s) ⌝ }
     ensures { λ r. ⌜ r ≡ le (cells 2 at (now (s .entry))) ⌝ }
@@ -176,24 +183,13 @@ pub struct Found<'a> {
     pub next: usize,
 }
 
-// The length byte at `place` of a frame; where there is none, 0.
-fn length_at(frame: &[u8], place: usize) -> usize
-    ensures { λ r. ⌜ r ≡ getD (now (frame .entry)) place 0 ⌝ }
-{
-    if place < frame.len() {
-        frame[place] as usize
-    } else {
-        0
-    }
-}
-
 // The message that begins at `place` of a frame.
 pub fn message_at<'a>(frame: &'a [u8], place: usize) -> Result<Found<'a>, Fault>
     ensures answer { λ r. ⌜ found r ≡ messageAt everyType (now (frame .entry)) place ⌝ }
     ensures next { λ r. ⌜ made r (λ x. x .next ≡ place + getD (now (frame .entry)) place 0) ⌝ }
     ensures lent { λ r. ⌜ made r (λ x. LentAt (frame .entry .ptr .0) (place + frame .entry .ptr .1) (x .message)) ⌝ }
 {
-    let length = length_at(frame, place);
+    let length = byte_at(frame, place) as usize;
     if length < 2 || place > frame.len() || length > frame.len() - place {
         return Err(Fault {
             reason: Reason::Length,

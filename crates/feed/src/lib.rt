@@ -5,6 +5,7 @@ mod fault;
 mod message;
 
 pub use decode::Found;
+pub use decode::byte_at;
 pub use decode::count_of;
 pub use decode::is_letter;
 pub use decode::is_symbol;
