@@ -1,0 +1,10 @@
+pub mod Folding
+pub mod Keeping
+pub mod Padding
+pub mod Pairing
+pub mod Pointing
+pub mod Pricing
+pub mod Reading
+pub mod Returning
+pub mod Showing
+pub mod Writing
