@@ -30,6 +30,11 @@ abbrev pub encoded : Sent → List ℕ
 encoded (sentUpdate u) = updateBytes u
 encoded (sentSummary s) = summaryBytes s
 
+-- the number of its bytes
+abbrev pub sizeOf : Sent → ℕ
+sizeOf (sentUpdate u) = 64
+sizeOf (sentSummary s) = 27
+
 -- each field within its width: the types of the code see to that
 pub record UpdateWidths (u : Update) : Type 0 where
   pub offset : u .offset < 2 ^ 32

@@ -6,7 +6,7 @@ ghost use lib.Dec.{leb};
 ghost use lib.ListN.{length};
 ghost use Rattle.feed.specs.Bytes.{bytes};
 ghost use Rattle.feed.specs.Layouts.{symbolFit, letterFit};
-ghost use Rattle.feed.specs.Sending.{Sent, sentUpdate, sentSummary, encoded, fit, InWidths, UpdateWidths, SummaryWidths, updateBytes, summaryBytes, laid};
+ghost use Rattle.feed.specs.Sending.{Sent, sentUpdate, sentSummary, encoded, sizeOf, fit, InWidths, UpdateWidths, SummaryWidths, updateBytes, summaryBytes, laid};
 use crate::decode::is_letter;
 use crate::decode::is_symbol;
 use crate::message::Summary;
@@ -18,7 +18,7 @@ pub trait Encode {
 
     // The number of bytes that it takes.
     fn size(&self) -> usize
-        ensures { λ r. ⌜ r ≡ length (encoded (sent (now (self .entry)))) ⌝ };
+        ensures { λ r. ⌜ r ≡ sizeOf (sent (now (self .entry))) ⌝ };
 
     // Whether its symbol and its auction letter are fit.
     fn is_fit(&self) -> bool

@@ -10,7 +10,7 @@ use Rattle.std.proofs.shelf.Tests.{and-parts}
 use Rattle.std.specs.declared.result.Result.the-variants.{Ok, Err}
 use Rattle.feed.specs.Bytes.{cells, le, bytes, AreBytes}
 use Rattle.feed.specs.Layouts.{Types, typeOf, everyType, understood, symbolFit, letterFit, updateOf, summaryOf}
-use Rattle.feed.specs.Sending.{Sent, sentUpdate, sentSummary, meant, encoded, updateBytes, summaryBytes, Fit}
+use Rattle.feed.specs.Sending.{Sent, sentUpdate, sentSummary, meant, encoded, sizeOf, updateBytes, summaryBytes, Fit}
 use Rattle.feed.proofs.Lays.{cells-whole}
 use Rattle.feed_laws.specs.Laws.{OwnLength, grown, WritingWhatWasReadGivesTheSameBytes}
 use Rattle.feed_laws.proofs.Numbers.{le-bytes, cells-again, cells-front}
@@ -54,7 +54,7 @@ unfolding updateBytes summaryBytes
 written-own (sentUpdate u) = record { two = omega arith; own = refl }
 written-own (sentSummary s) = record { two = omega arith; own = refl }
 
-rewritten : (m : List ℕ) (x : Sent) → AreBytes m → length m ≡ length (encoded x) → getD m 0 0 ≡ length m → Tells m x → encoded x ≡ m
+rewritten : (m : List ℕ) (x : Sent) → AreBytes m → length m ≡ sizeOf x → getD m 0 0 ≡ length m → Tells m x → encoded x ≡ m
 unfolding updateBytes summaryBytes
 rewritten m (sentUpdate u) all long own t =
     let offset = cells-again m 4 2 all in

@@ -1,5 +1,5 @@
 // The laws of frames, each the contract of a function.
-ghost use Rattle.feed_laws.specs.Laws.{ReadingReturnsWhatWasWritten, WritingWhatWasReadGivesTheSameBytes, EveryReaderFindsEveryMessage, UnknownTypesAreSteppedOver, GrownAtItsEndReadsAsBefore};
+ghost use Rattle.feed_laws.specs.Laws.{ReadingReturnsWhatWasWritten, WritingWhatWasReadGivesTheSameBytes, EveryReaderFindsEveryMessage, UnknownTypesAreSteppedOver, GrownAtItsEndReadsAsBefore, PublishedExamplesRead};
 
 pub fn reading_returns_what_was_written()
     ensures { λ _. ⌜ ReadingReturnsWhatWasWritten ⌝ }
@@ -19,4 +19,8 @@ pub fn every_reader_finds_every_message()
 
 pub fn unknown_types_are_stepped_over()
     ensures { λ _. ⌜ UnknownTypesAreSteppedOver ⌝ }
+{}
+
+pub fn published_examples_read()
+    ensures { λ _. ⌜ PublishedExamplesRead ⌝ }
 {}

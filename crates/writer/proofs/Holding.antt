@@ -13,10 +13,11 @@ use Rattle.std.specs.declared.option.Option.the-variants.{Some, None}
 use Rattle.feed.specs.Bytes.{cells, le, bytes}
 use Rattle.feed.specs.Layouts.{everyType}
 use Rattle.feed.specs.Frames.{saying, frameSays}
-use Rattle.feed.specs.Sending.{Sent, sentUpdate, sentSummary, meant, encoded, updateBytes, summaryBytes, fit, Fit, InWidths, AllFit, behind, framed, frameOf, laid}
+use Rattle.feed.specs.Sending.{Sent, sentUpdate, sentSummary, meant, encoded, sizeOf, fit, Fit, InWidths, AllFit, behind, framed, frameOf, laid}
+use Rattle.feed.proofs.Lays.{encoded-size}
 use Rattle.feed_laws.proofs.Numbers.{le-bytes}
 use Rattle.feed_laws.proofs.Walks.{written-trip}
-use Rattle.writer.specs.Writing.{lengthIn, countIn, frameIn, hasRoom, refusal, extended, written, writtenAll, startRefusal, begun, Holds, sentAfter}
+use Rattle.writer.specs.Writing.{lengthIn, countIn, frameIn, hasRoom, refusal, extended, written, writtenAll, startRefusal, emptyFrame, begun, Holds, sentAfter}
 use Rattle.writer.specs.declared.refusal.Refusal.{Refusal}
 use Rattle.writer.specs.declared.refusal.Refusal.the-variants.{NoRoom, Unfit}
 use Rattle.writer.proofs.Extends.{room, taken}
@@ -93,14 +94,15 @@ all-push : (ms : List Sent) (m : Sent) → AllFit ms → Fit m → AllFit (ms ++
 all-push [] m all one = (one, tt)
 all-push (x ∷ ms) m all one = (all .0, all-push ms m (all .1) one)
 
-holds-more : (ms : List Sent) (m : Sent) (b : List ℕ) → Holds ms b → hasRoom b (length (encoded m)) ≡ true → Fit m → Holds (ms ++ m ∷ []) (extended b (encoded m))
+holds-more : (ms : List Sent) (m : Sent) (b : List ℕ) → Holds ms b → hasRoom b (sizeOf m) ≡ true → Fit m → Holds (ms ++ m ∷ []) (extended b (encoded m))
 holds-more ms m b h roomy one =
     let r = drop (lengthIn b) b in
     let e = encoded m in
     let is = splits ms b (h .frame) in
     let small = h .short in
     let says : lengthIn b ≡ length (frameOf ms) = ap lengthIn is ∙ says-length ms r (omega arith) in
-    let most = room b (length e) roomy .most in
+    let most = room b (sizeOf m) roomy .most in
+    let same = encoded-size m in
     let long = frame-push ms m in
     let new = ap (λ t. extended t e) is ∙ extends-frame ms m r (omega arith) in
     let rest = drop (length (frameOf ms) + length e) (frameOf ms ++ r) in
@@ -118,7 +120,7 @@ unrefused false fits e = absurd (let z : _≡_ {A = ℕ} 0 1 = cc in omega arith
 
 pub held : (ms : List Sent) (m : Sent) (b b′ : List ℕ) (why : Option Refusal) → why ≡ refusal b m → b′ ≡ written b m → (why ≡ None → InWidths m) → Holds ms b → Holds (sentAfter why ms m) b′
 held ms m b b′ None is after widths h =
-    let t = unrefused (hasRoom b (length (encoded m))) (fit m) is in
+    let t = unrefused (hasRoom b (sizeOf m)) (fit m) is in
     let new = after ∙ ap (λ o. elim o [ None ↦ extended b (encoded m) | Some w ↦ b ]) (sym is) in
     subst (Holds (ms ++ m ∷ [])) (sym new) (holds-more ms m b h (t .0) (record { fields = t .1; widths = widths refl }))
 held ms m b b′ (Some why) is after widths h = subst (Holds ms) (sym (after ∙ ap (λ o. elim o [ None ↦ extended b (encoded m) | Some w ↦ b ]) (sym is))) h
@@ -127,7 +129,7 @@ startable : (eight : Bool) → None ≡ cond eight None (Some NoRoom) → eight 
 startable true e = refl
 startable false e = absurd (let z : _≡_ {A = ℕ} 0 1 = cc in omega arith)
 
-lays-first : (b : List ℕ) → laid b 0 (frameOf []) ≡ frameOf [] ++ drop 8 b
+lays-first : (b : List ℕ) → laid b 0 emptyFrame ≡ frameOf [] ++ drop 8 b
 unfolding laid frameOf
 lays-first b = refl
 
@@ -158,8 +160,7 @@ longer xs ys =
     omega arith
 
 -- each message has 27 bytes at least, so that a frame's count stays small
-message-long : (m : Sent) → 27 ≤ length (encoded m)
-unfolding updateBytes summaryBytes
+message-long : (m : Sent) → 27 ≤ sizeOf m
 message-long (sentUpdate u) = omega arith
 message-long (sentSummary s) = omega arith
 
@@ -167,16 +168,18 @@ messages-long : (ms : List Sent) → 27 * length ms ≤ length (behind (map enco
 messages-long [] = omega arith
 messages-long (m ∷ ms) =
     let one = message-long m in
+    let same = encoded-size m in
     let others = messages-long ms in
     let all = length-append (encoded m) (behind (map encoded ms)) in
     let more : 27 * suc (length ms) ≡ 27 * length ms + 27 = omega arith in
     omega arith
 
 -- where the longer frame fits, there is room
-has-room : (ms : List Sent) (m : Sent) (b : List ℕ) → Holds ms b → length (frameOf ms) + length (encoded m) ≤ 1500 → length (frameOf ms) + length (encoded m) ≤ length b → hasRoom b (length (encoded m)) ≡ true
+has-room : (ms : List Sent) (m : Sent) (b : List ℕ) → Holds ms b → length (frameOf ms) + length (encoded m) ≤ 1500 → length (frameOf ms) + length (encoded m) ≤ length b → hasRoom b (sizeOf m) ≡ true
 has-room ms m b h most within =
     let r = drop (lengthIn b) b in
-    let n = length (encoded m) in
+    let n = sizeOf m in
+    let same = encoded-size m in
     let is = splits ms b (h .frame) in
     let small = h .short in
     let says : lengthIn b ≡ length (frameOf ms) = ap lengthIn is ∙ says-length ms r (omega arith) in
@@ -211,10 +214,11 @@ takes-all (m ∷ ms) done b h fits most within =
     let long = frame-push done m in
     let eight = frame-length done in
     let roomy = has-room done m b h (omega arith) (omega arith) in
-    let r = room b (length e) roomy in
+    let r = room b (sizeOf m) roomy in
     let within′ = r .within in
+    let size-of = encoded-size m in
     let next : written b m ≡ extended b e = ap (λ o. elim o [ None ↦ extended b e | Some w ↦ b ]) (sym (taken b m roomy (fits .0 .fields))) in
-    let size = length-extended b e (omega arith) (r .within) in
+    let size = length-extended b e (omega arith) (omega arith) in
     let held-on = holds-more done m b h roomy (fits .0) in
     subst (λ t. Holds t (writtenAll (written b m) ms)) parts
     (subst (λ t. Holds ((done ++ m ∷ []) ++ ms) (writtenAll t ms)) (sym next)
@@ -225,7 +229,7 @@ pub starts-all : (b b′ : List ℕ) (why : Option Refusal) → why ≡ startRef
 starts-all b b′ why is after ms fits most within =
     let eight = frame-length ms in
     let able : why ≡ None = is ∙ cond-true _ _ _ (le-leb 8 (length b) (omega arith)) in
-    let begins : b′ ≡ laid b 0 (frameOf []) = after ∙ cond-true _ _ _ (le-leb 8 (length b) (omega arith)) in
+    let begins : b′ ≡ laid b 0 emptyFrame = after ∙ cond-true _ _ _ (le-leb 8 (length b) (omega arith)) in
     let head = eight-long in
-    let size : length b′ ≡ length b = ap length begins ∙ length-laid b 0 (frameOf []) (omega arith) in
+    let size : length b′ ≡ length b = ap length begins ∙ length-laid b 0 emptyFrame (omega arith) in
     takes-all ms [] b′ (starts b b′ why is after able) fits most (omega arith)

@@ -8,7 +8,7 @@ use lib.ListN.{length, getD, take}
 use Rattle.std.specs.declared.option.Option.{Option}
 use Rattle.std.specs.declared.option.Option.the-variants.{Some, None}
 use Rattle.feed.specs.Bytes.{cells, le, bytes}
-use Rattle.feed.specs.Sending.{Sent, encoded, fit, AllFit, frameOf, laid}
+use Rattle.feed.specs.Sending.{Sent, encoded, sizeOf, fit, AllFit, frameOf, laid}
 use Rattle.writer.specs.declared.refusal.Refusal.{Refusal}
 use Rattle.writer.specs.declared.refusal.Refusal.the-variants.{NoRoom, Unfit}
 
@@ -29,7 +29,7 @@ hasRoom b n = leb 8 (lengthIn b) && (ltb (countIn b) 255 && (leb (lengthIn b + n
 
 -- why a message is not written, if so; want of room comes first
 abbrev pub refusal : List ℕ → Sent → Option Refusal
-refusal b m = cond (hasRoom b (length (encoded m))) (cond (fit m) None (Some Unfit)) (Some NoRoom)
+refusal b m = cond (hasRoom b (sizeOf m)) (cond (fit m) None (Some Unfit)) (Some NoRoom)
 
 -- a buffer with a message's bytes behind its frame, and the header made to count them
 unfoldable pub extended : List ℕ → List ℕ → List ℕ
@@ -48,9 +48,13 @@ writtenAll b (m ∷ ms) = writtenAll (written b m) ms
 abbrev pub startRefusal : List ℕ → Option Refusal
 startRefusal b = cond (leb 8 (length b)) None (Some NoRoom)
 
+-- a frame without a message
+abbrev pub emptyFrame : List ℕ
+emptyFrame = 8 ∷ 0 ∷ 0 ∷ 0 ∷ 0 ∷ 0 ∷ 0 ∷ 0 ∷ []
+
 -- a buffer in which a frame without a message was begun; one under 8 bytes is left as it is
 abbrev pub begun : List ℕ → List ℕ
-begun b = cond (leb 8 (length b)) (laid b 0 (frameOf [])) b
+begun b = cond (leb 8 (length b)) (laid b 0 emptyFrame) b
 
 -- a buffer's frame is that of these messages, which are fit
 pub record Holds (ms : List Sent) (b : List ℕ) : Type 0 where

@@ -1,7 +1,7 @@
 use mathlib.Core.Path.{_≡_, sym, ap, _∙_}
 use mathlib.Core.Bool.{true}
-use lib.ListN.{length}
-use Rattle.feed.specs.Sending.{encoded, fit}
+use Rattle.feed.specs.Sending.{sizeOf, fit}
+use Rattle.feed.proofs.Lays.{encoded-size}
 use Rattle.writer.specs.Writing.{hasRoom}
 use Rattle.writer.proofs.Extends.{taken, extends}
 use Rattle.writer.proofs.frames.append.Needs as need
@@ -10,8 +10,9 @@ pub returns : need.returns
 returns g c =
     let b = c .args .buffer .now in
     let m = g .M·Encode .sent (c .args .message .now) in
-    let long = c .size-size .ensures in
-    let roomy : hasRoom b (length (encoded m)) ≡ true = ap (hasRoom b) (sym long) ∙ sym (c .if-not-has-room .ensures tt) in
+    let size = c .size-size .ensures in
+    let long = size ∙ sym (encoded-size m) in
+    let roomy : hasRoom b (sizeOf m) ≡ true = ap (hasRoom b) (sym size) ∙ sym (c .if-not-has-room .ensures tt) in
     let fits : fit m ≡ true = sym (c .if-not-is-fit .ensures tt) in
     let wrote = c .write-at .ensures in
     record {
