@@ -7,4 +7,5 @@ pub mod Pricing
 pub mod Reading
 pub mod Returning
 pub mod Showing
+pub mod Wording
 pub mod Writing

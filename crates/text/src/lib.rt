@@ -1,8 +1,9 @@
-// Text of the programs' lines: numbers, bytes in hex, prices and symbols.
+// Text of the programs' lines: words, numbers, bytes in hex, prices and symbols.
 mod hex;
 mod number;
 mod price;
 mod symbol;
+mod word;
 
 pub use hex::hex_reads_back;
 pub use hex::push_hex;
@@ -15,3 +16,5 @@ pub use price::price_reads_back;
 pub use symbol::padded;
 pub use symbol::symbol_reads_back;
 pub use symbol::trimmed;
+pub use word::next_word;
+pub use word::uncommented;

@@ -1,0 +1,5 @@
+pub mod Entries
+pub mod Fields
+pub mod Phrases
+pub mod Shown
+pub mod Values
