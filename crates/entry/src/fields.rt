@@ -1,10 +1,8 @@
 // What one word writes.
 ghost use mathlib.Core.Path.{_≡_};
-ghost use mathlib.Core.Bool.{cond};
-ghost use Rattle.std.specs.declared.option.Option.the-variants.{Some, None};
-ghost use Rattle.text.specs.Hex.{isHexDigit, hexDigit};
 ghost use Rattle.entry.specs.Values.{verbOf, letterOf, numberOf, conditionOf};
 use feed::is_letter;
+use text::hex_digit;
 use text::whole;
 
 // The verb that a line begins with.
@@ -45,18 +43,6 @@ pub fn number_of(word: &[u8]) -> Option<u32>
     ensures { λ r. ⌜ r ≡ numberOf (now (word .entry)) ⌝ }
 {
     u32::try_from(whole(word)?).ok()
-}
-
-// The value of a hex digit of either case.
-fn hex_digit(b: u8) -> Option<u8>
-    ensures { λ r. ⌜ r ≡ cond (isHexDigit b) (Some (hexDigit b)) None ⌝ }
-{
-    match b {
-        b'0'..=b'9' => Some(b - b'0'),
-        b'A'..=b'F' => Some(b - b'A' + 10),
-        b'a'..=b'f' => Some(b - b'a' + 10),
-        _ => None,
-    }
 }
 
 // A condition: one byte from 0x21 to 0x7E, or any byte as 0xNN.

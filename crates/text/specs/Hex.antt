@@ -7,6 +7,8 @@ use lib.Dec.{ltb, eqb}
 use lib.ListN.{length, take, drop}
 use Rattle.std.specs.Text.{within, asciiDigit, digitChar}
 use Rattle.std.specs.shelf.Lists.{All, joined}
+use Rattle.std.specs.declared.option.Option.{Option}
+use Rattle.std.specs.declared.option.Option.the-variants.{Some, None}
 
 -- a hex digit of either case
 abbrev pub isHexDigit : ℕ → Bool
@@ -15,6 +17,10 @@ isHexDigit c = asciiDigit c || (within 65 70 c || within 97 102 c)
 -- the value of a hex digit
 abbrev pub hexDigit : ℕ → ℕ
 hexDigit c = cond (ltb c 58) (c - 48) (cond (ltb c 71) (c - 55) (c - 87))
+
+-- the value of a byte that is a hex digit
+abbrev pub hexDigitOf : ℕ → Option ℕ
+hexDigitOf c = cond (isHexDigit c) (Some (hexDigit c)) None
 
 -- pairs of hex digits, and nothing else
 abbrev pub isHexPairs : List ℕ → Bool

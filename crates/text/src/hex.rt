@@ -8,7 +8,7 @@ ghost use Rattle.std.specs.Of.String.{string-bytes};
 ghost use Rattle.std.specs.Results.{Cases, isOk};
 ghost use Rattle.std.specs.Text.{digitChar};
 ghost use Rattle.std.specs.Vec.{made};
-ghost use Rattle.text.specs.Hex.{isHexDigit, hexDigit, isHexPairs, hexBytes, hexPair, hexText, Keeps, HexReadsBack};
+ghost use Rattle.text.specs.Hex.{isHexDigit, hexDigit, hexDigitOf, isHexPairs, hexBytes, hexPair, hexText, Keeps, HexReadsBack};
 use std::alloc::AllocError;
 
 // Whether `b` is a hex digit of either case.
@@ -29,6 +29,13 @@ fn digit(b: u8) -> u8
         b'A'..=b'F' => b - b'A' + 10,
         _ => b - b'a' + 10,
     }
+}
+
+// The value of a hex digit of either case; none for another byte.
+pub fn hex_digit(b: u8) -> Option<u8>
+    ensures { λ r. ⌜ r ≡ hexDigitOf b ⌝ }
+{
+    if is_digit(b) { Some(digit(b)) } else { None }
 }
 
 // Whether `word` is pairs of hex digits, and nothing else.

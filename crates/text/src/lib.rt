@@ -5,6 +5,7 @@ mod price;
 mod symbol;
 mod word;
 
+pub use hex::hex_digit;
 pub use hex::hex_reads_back;
 pub use hex::push_hex;
 pub use hex::push_word;
