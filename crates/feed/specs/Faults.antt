@@ -6,6 +6,7 @@ use Rattle.feed.specs.declared.fault.Reason.{Reason}
 use Rattle.feed.specs.declared.fault.Reason.the-variants.{Header, Length, Short, Symbol, Letter, Leftover}
 use Rattle.feed.specs.declared.fault.Fault.{Fault}
 
+-- the number by which a reason is published
 abbrev pub numberOf : Reason → ℕ
 numberOf Header = 30
 numberOf Length = 31
@@ -14,6 +15,7 @@ numberOf Symbol = 33
 numberOf Letter = 33
 numberOf Leftover = 34
 
+-- the layer that it lies in
 abbrev pub layerOf : Reason → Layer
 layerOf Header = Frame
 layerOf Length = Message

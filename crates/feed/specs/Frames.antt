@@ -35,7 +35,7 @@ pub record Part : Type 0 where
   pub place : ℕ
   pub bytes : List ℕ
 
--- the message at a place by its own length, its first byte: 2 at least, and within the frame
+-- the message at a place by its own length, its first byte: 2 at least, and within the frame; a length byte that is absent reads as 0
 abbrev pub partAt : List ℕ → ℕ → Result Part Fault
 partAt f place =
     cond (leb 2 (getD f place 0) && leb (place + getD f place 0) (length f)) (Ok (record { place = place; bytes = take (getD f place 0) (drop place f) }))

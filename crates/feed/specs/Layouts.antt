@@ -19,6 +19,7 @@ use Rattle.feed.specs.declared.fault.Reason.the-variants.{Short, Symbol, Lette
 abbrev pub printable : ℕ → Bool
 printable b = leb 0x20 b && leb b 0x7e
 
+-- a symbol: such bytes alone
 abbrev pub symbolFit : List ℕ → Bool
 symbolFit [] = true
 symbolFit (b ∷ bs) = printable b && symbolFit bs
@@ -37,6 +38,7 @@ pub data Notice : Type 0 where
 abbrev pub typeOf : List ℕ → ℕ
 typeOf m = getD m 1 0
 
+-- the fields of an update, at their offsets
 abbrev pub updateOf : List ℕ → Update
 updateOf m = record {
   offset = le (cells 4 2 m);
@@ -52,6 +54,7 @@ updateOf m = record {
   offer = le (cells 8 56 m);
 }
 
+-- the fields of a summary
 abbrev pub summaryOf : List ℕ → Summary
 summaryOf m = record {
   offset = le (cells 4 2 m);

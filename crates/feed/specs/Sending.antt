@@ -19,13 +19,16 @@ abbrev pub meant : Sent → Notice
 meant (sentUpdate u) = update u
 meant (sentSummary s) = summary s
 
+-- an update, field by field
 unfoldable pub updateBytes : Update → List ℕ
 updateBytes u =
     64 ∷ 0xd1 ∷ (bytes 4 (u .offset) ++ (cells 8 0 (u .symbol) ++ (u .auction ∷ (bytes 8 (u .reference) ++ (bytes 4 (u .buy) ++ (bytes 4 (u .sell) ++ (bytes 8 (u .indicative) ++ (bytes 8 (u .«auction_only») ++ (u .condition ∷ (bytes 8 (u .bid) ++ bytes 8 (u .offer)))))))))))
 
+-- a summary, field by field
 unfoldable pub summaryBytes : Summary → List ℕ
 summaryBytes s = 27 ∷ 0x96 ∷ (bytes 4 (s .offset) ++ (cells 8 0 (s .symbol) ++ (s .auction ∷ (bytes 8 (s .price) ++ bytes 4 (s .contracts)))))
 
+-- the bytes of a message
 abbrev pub encoded : Sent → List ℕ
 encoded (sentUpdate u) = updateBytes u
 encoded (sentSummary s) = summaryBytes s

@@ -9,15 +9,18 @@ use Rattle.feed.specs.declared.decode.Found.{Found}
 use Rattle.feed.specs.declared.message.Message.{Message}
 use Rattle.feed.specs.declared.message.Message.the-variants.{Update, Summary, Unknown}
 
+-- what a message tells; an unknown one by its bytes
 abbrev pub noticeOf : Message → Notice
 noticeOf (Update u) = update u
 noticeOf (Summary s) = summary s
 noticeOf (Unknown m) = unknown (m .now)
 
+-- a message that was read, or its fault
 abbrev pub heard : Result Message Fault → Result Notice Fault
 heard (Ok message) = Ok (noticeOf message)
 heard (Err fault) = Err fault
 
+-- the same, of a message that was found in its frame
 abbrev pub found : Result Found Fault → Result Notice Fault
 found (Ok x) = Ok (noticeOf (x .message))
 found (Err fault) = Err fault

@@ -9,11 +9,11 @@ use Rattle.std.specs.Written.{decimal}
 use Rattle.std.specs.declared.option.Option.{Option}
 use Rattle.std.specs.declared.option.Option.the-variants.{Some, None}
 use Rattle.text.specs.Number.{fitting, numberOf, isNumeral}
+use Rattle.text.specs.Word.{before, isByte}
 
 -- the bytes before the first point, or all
 abbrev pub beforePoint : List ℕ → List ℕ
-beforePoint [] = []
-beforePoint (c ∷ cs) = cond (eqb c 46) [] (c ∷ beforePoint cs)
+beforePoint word = before (isByte 46) word
 
 -- a point stands in the word
 abbrev pub hasPoint : List ℕ → Bool

@@ -15,9 +15,9 @@ abbrev pub onward : (ℕ → Bool) → List ℕ → List ℕ
 onward test [] = []
 onward test (c ∷ cs) = cond (test c) (c ∷ cs) (onward test cs)
 
--- a comment begins at a `#`
-abbrev pub isHash : ℕ → Bool
-isHash c = eqb c 35
+-- that byte
+abbrev pub isByte : ℕ → ℕ → Bool
+isByte mark c = eqb c mark
 
 -- a space, a tab or a carriage return
 abbrev pub isBlank : ℕ → Bool
@@ -27,9 +27,9 @@ isBlank c = eqb c 32 || (eqb c 9 || eqb c 13)
 abbrev pub isInk : ℕ → Bool
 isInk c = not (isBlank c)
 
--- the line without its comment
+-- the line before its comment, which begins at a `#`
 abbrev pub uncommentedOf : List ℕ → List ℕ
-uncommentedOf line = before isHash line
+uncommentedOf line = before (isByte 35) line
 
 -- the first word of a line; empty where there is none
 abbrev pub wordOf : List ℕ → List ℕ

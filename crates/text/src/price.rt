@@ -1,24 +1,10 @@
 // Prices in ten-thousandths of a dollar, and their text.
 ghost use mathlib.Core.Path.{_≡_};
-ghost use Prim.Native.Nat.{_≤_};
-ghost use lib.ListN.{length};
 ghost use Rattle.std.specs.declared.option.Option.the-variants.{Some};
-ghost use Rattle.text.specs.Price.{beforePoint, decimalsOf, dollarsOf, priceText, PriceReadsBack};
+ghost use Rattle.text.specs.Price.{decimalsOf, dollarsOf, priceText, PriceReadsBack};
 use crate::number::whole;
+use crate::word::position;
 use std::fmt;
-
-// How many bytes stand before the first point; all where there is none.
-fn point(word: &[u8]) -> usize
-    ensures value { λ r. ⌜ r ≡ length (beforePoint (now (word .entry))) ⌝ }
-    ensures bound { λ r. ⌜ r ≤ length (now (word .entry)) ⌝ }
-{
-    for (i, b) in word.iter().enumerate() {
-        if *b == b'.' {
-            return i;
-        }
-    }
-    word.len()
-}
 
 // The ten-thousandths that one to four digits behind a point write; none for anything else.
 fn decimals(digits: &[u8]) -> Option<u64>
@@ -39,7 +25,7 @@ fn decimals(digits: &[u8]) -> Option<u64>
 pub fn dollars(word: &[u8]) -> Option<u64>
     ensures { λ r. ⌜ r ≡ dollarsOf (now (word .entry)) ⌝ }
 {
-    let i = point(word);
+    let i = position(word, b'.');
     let units = whole(&word[0..i])?.checked_mul(10_000)?;
     if i == word.len() {
         return Some(units);

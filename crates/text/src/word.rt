@@ -1,19 +1,28 @@
 // Words of a line.
 ghost use mathlib.Core.Path.{_≡_};
 ghost use Prim.Native.Nat.{_≤_};
-ghost use lib.ListN.{length};
-ghost use Rattle.text.specs.Word.{isBlank, isInk, before, onward, uncommentedOf, wordOf, behindWord, wordList, leading};
+ghost use lib.ListN.{length, take};
+ghost use Rattle.text.specs.Word.{isByte, isBlank, isInk, before, onward, uncommentedOf, wordOf, behindWord, wordList, leading};
 
 // The bytes before the first `#`; all where there is none.
 pub fn uncommented(line: &[u8]) -> &[u8]
     ensures { λ r. ⌜ now r ≡ uncommentedOf (now (line .entry)) ⌝ }
 {
-    for (i, b) in line.iter().enumerate() {
-        if *b == b'#' {
-            return &line[0..i];
+    &line[0..position(line, b'#')]
+}
+
+// How many bytes stand before the first `mark`; all where there is none.
+pub(crate) fn position(bytes: &[u8], mark: u8) -> usize
+    ensures value { λ r. ⌜ r ≡ length (before (isByte mark) (now (bytes .entry))) ⌝ }
+    ensures front { λ r. ⌜ take r (now (bytes .entry)) ≡ before (isByte mark) (now (bytes .entry)) ⌝ }
+    ensures bound { λ r. ⌜ r ≤ length (now (bytes .entry)) ⌝ }
+{
+    for (i, b) in bytes.iter().enumerate() {
+        if *b == mark {
+            return i;
         }
     }
-    line
+    bytes.len()
 }
 
 // Whether `b` stands between words: a space, a tab or a carriage return.

@@ -7,6 +7,7 @@ use Rattle.std.specs.declared.result.Result.the-variants.{Ok, Err}
 use Rattle.writer.specs.declared.refusal.Refusal.{Refusal}
 use Rattle.writer.specs.declared.refusal.Refusal.the-variants.{NoRoom, Unfit}
 
+-- the number by which a refusal is published
 abbrev pub numberOf : Refusal → ℕ
 numberOf NoRoom = 35
 numberOf Unfit = 36
