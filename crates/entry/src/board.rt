@@ -8,16 +8,12 @@ use crate::problem::Problem;
 use crate::problem::Trouble;
 use crate::words::Words;
 use feed::Summary;
-use feed::SummaryDebug;
-use feed::SummaryPartialEq;
 use feed::Update;
-use feed::UpdateDebug;
-use feed::UpdatePartialEq;
 use text::next_word;
 use text::uncommented;
 
 // A message for the frame that is being filled, or the order to send it.
-#[derive(Clone, Copy, Debug, PartialEq)]
+#[derive(Clone, Copy)]
 pub enum Entry {
     Update(Update),
     Summary(Summary),

@@ -2,7 +2,7 @@
 ghost use mathlib.Core.Path.{_≡_};
 ghost use Rattle.entry.specs.Phrases.{phraseOf};
 
-#[derive(Clone, Copy, Debug, PartialEq)]
+#[derive(Clone, Copy)]
 pub enum Trouble {
     // the line begins with no known verb
     Verb,
@@ -37,7 +37,7 @@ impl Trouble {
 }
 
 // A word of the line, and the trouble with it.
-#[derive(Clone, Copy, Debug, PartialEq)]
+#[derive(Clone, Copy)]
 pub struct Problem<'a> {
     pub word: &'a [u8],
     pub trouble: Trouble,

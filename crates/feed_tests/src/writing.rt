@@ -6,6 +6,7 @@ use feed::Encode;
 use feed::Summary;
 use feed::SummaryEncode;
 use feed::UpdateEncode;
+use feed::put;
 use std::test::*;
 use writer::Refusal;
 use writer::RefusalDebug;
@@ -79,6 +80,39 @@ fn longest() -> Result<(), Fail> {
     check_eq(frame(&buffer).len(), 1493)?;
     check_eq(filled(&mut buffer, 23)?, 0)?;
     check_eq(frame(&buffer).len(), 1480)
+}
+
+// A summary behind a frame that ends just before it: whether it is taken, by the frame's length and the buffer's.
+#[test]
+fn last_bytes() -> Result<(), Fail> {
+    let lengths = [
+        (1472, 2000, true),
+        (1473, 2000, true),
+        (1474, 2000, false),
+        (1473, 1500, true),
+        (1473, 1499, false),
+        (1474, 1501, false),
+        (8, 35, true),
+        (9, 35, false),
+        (7, 35, false),
+    ];
+    for (length, size, taken) in lengths {
+        let mut space = [0u8; 2000];
+        if size > 2000 {
+            return Err(Fail::new("a size past the space"));
+        }
+        let buffer = &mut space[0..size];
+        let [low, high] = u16::to_le_bytes(length);
+        put(buffer, 0, &[low, high, 1]);
+        check_eq(add(buffer, &summary()).is_ok(), taken)?;
+        let after = if taken {
+            usize::from(length) + 27
+        } else {
+            usize::from(length)
+        };
+        check_eq(frame(buffer).len(), after.min(size))?;
+    }
+    Ok(())
 }
 
 fn with_symbol(byte: u8) -> Summary {
