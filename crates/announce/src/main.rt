@@ -1,4 +1,12 @@
 // Turns a board of messages, one a line, into frames, one a line in hex digits.
+ghost use mathlib.Core.Path.{_≡_};
+ghost use mathlib.Core.List.{List, [], _∷_, _++_};
+ghost use Rattle.std.specs.Of.Vec.{vec-items, vec-len};
+ghost use Rattle.std.specs.Vec.{made};
+ghost use Rattle.feed.specs.Sending.{Sent};
+ghost use Rattle.announce.specs.Sender.{InThisOrNext};
+ghost use Rattle.writer.specs.Refusals.{refused};
+ghost use Rattle.writer.specs.Writing.{Holds, sentAfter};
 use board::Word;
 use board::WordDisplay;
 use entry::Entry;
@@ -26,40 +34,55 @@ struct Sender {
     messages: u64,
     frames: u64,
     bad: u64,
+    ghost long: { vec-len buffer ≡ 1500 },
 }
 
 impl Sender {
+    // Begins the next frame.
+    fn renew(&mut self)
+        ensures { λ _. ⌜ Holds [] (vec-items (now (self .exit) .buffer)) ⌝ }
+    {
+        self.pending = 0;
+        let _ = start(self.buffer.as_mut_slice());
+    }
+
     // Prints the frame in the making, if it has a message, and begins the next.
-    fn send(&mut self, rt: &LibcRuntime) -> Result<(), AnyError> {
+    fn send(&mut self, rt: &LibcRuntime) -> Result<(), AnyError>
+        ensures { λ r. ⌜ made r (λ _. Holds [] (vec-items (now (self .exit) .buffer))) ⌝ }
+    {
         if self.pending > 0 {
             let mut text = String::new(rt.alloc());
             push_hex(&mut text, frame(self.buffer.as_slice()))?;
             println!(rt, "{text}")?;
             self.frames = self.frames.saturating_add(1);
-            self.pending = 0;
         }
-        let _ = start(self.buffer.as_mut_slice());
+        self.renew();
         Ok(())
     }
 
-    // Writes a message, into the next frame where this one is full.
-    fn put<M: Encode>(
-        &mut self,
-        rt: &LibcRuntime,
-        message: &M,
-    ) -> Result<Option<Refusal>, AnyError> {
-        let mut answer = add(self.buffer.as_mut_slice(), message);
-        if let Err(Refusal::NoRoom) = answer {
-            self.send(rt)?;
-            answer = add(self.buffer.as_mut_slice(), message);
+    // Writes a message into the frame in the making.
+    fn write<M: Encode>(&mut self, message: &M) -> Result<(), Refusal>
+        ensures { λ r. ⌜ ((ms : List Sent) → Holds ms (vec-items (now (self .entry) .buffer)) → Holds (sentAfter (refused r) ms (M·Encode .sent (now (message .entry)))) (vec-items (now (self .exit) .buffer))) ⌝ }
+    {
+        let answer = add(self.buffer.as_mut_slice(), message);
+        if answer.is_ok() {
+            self.pending = self.pending.saturating_add(1);
+            self.messages = self.messages.saturating_add(1);
         }
-        match answer {
-            Ok(()) => {
-                self.pending = self.pending.saturating_add(1);
-                self.messages = self.messages.saturating_add(1);
-                Ok(None)
+        answer
+    }
+
+    // Writes a message, into the next frame where this one has no room for it; the refusal, if it was not written.
+    fn put<M: Encode>(&mut self, rt: &LibcRuntime, message: &M) -> Result<Option<Refusal>, AnyError>
+        ensures { λ r. ⌜ made r (λ why. (ms : List Sent) → Holds ms (vec-items (now (self .entry) .buffer)) → InThisOrNext why ms (M·Encode .sent (now (message .entry))) (vec-items (now (self .exit) .buffer))) ⌝ }
+    {
+        match self.write(message) {
+            Ok(()) => Ok(None),
+            Err(Refusal::Unfit) => Ok(Some(Refusal::Unfit)),
+            Err(Refusal::NoRoom) => {
+                self.send(rt)?;
+                Ok(self.write(message).err())
             }
-            Err(refusal) => Ok(Some(refusal)),
         }
     }
 
