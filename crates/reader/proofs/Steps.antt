@@ -17,7 +17,7 @@ use Rattle.feed.specs.Frames.{Said, says, ends, breaks, followed, Part, partAt,
 use Rattle.feed.specs.declared.fault.Fault.{Fault}
 use Rattle.feed.specs.declared.fault.Reason.the-variants.{Leftover}
 use Rattle.reader.specs.Reading.{ahead, onward, after, moved}
-use Rattle.reader.specs.declared.state.Reader.{Reader}
+use Rattle.reader.specs.declared.Reader.{Reader}
 
 -- one thing, if it is no fault
 abbrev pub some : {A : Type 0} → Result A Fault → Result (Option A) Fault

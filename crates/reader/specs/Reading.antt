@@ -14,7 +14,7 @@ use Rattle.feed.specs.Shown.{noticeOf, LentAt}
 use Rattle.feed.specs.declared.decode.Found.{Found}
 use Rattle.feed.specs.declared.fault.Fault.{Fault}
 use Rattle.feed.specs.declared.message.Message.{Message}
-use Rattle.reader.specs.declared.state.Reader.{Reader}
+use Rattle.reader.specs.declared.Reader.{Reader}
 
 -- what a reader has yet to say
 abbrev pub ahead : Reader → Said Notice

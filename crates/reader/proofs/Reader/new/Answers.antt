@@ -4,7 +4,7 @@ use Rattle.feed.specs.Layouts.{everyType}
 use Rattle.feed.specs.Frames.{frameSays}
 use Rattle.feed_laws.proofs.Walks.{written-trip}
 use Rattle.reader.specs.Reading.{ahead}
-use Rattle.reader.proofs.state.Reader.new.Needs as need
+use Rattle.reader.proofs.Reader.new.Needs as need
 
 pub returns : need.returns
 returns c =

@@ -3,7 +3,7 @@ use native.Mathlib.Omega.{arith}
 use Prim.Native.Nat.{_<_}
 use Rattle.feed.specs.Layouts.{everyType}
 use Rattle.reader.proofs.Steps.{some, first-more}
-use Rattle.reader.proofs.calls.found_at.Needs as need
+use Rattle.reader.proofs.found_at.Needs as need
 
 pub returns-in-Ok : need.returns-in-Ok
 returns-in-Ok c =

@@ -9,7 +9,7 @@ use Rattle.feed.specs.Shown.{noticeOf, LentAt}
 use Rattle.feed.specs.declared.decode.Found.{Found}
 use Rattle.reader.specs.Reading.{ahead, answeredFound}
 use Rattle.reader.proofs.Steps.{moved-says, unfaulted, moved-on}
-use Rattle.reader.proofs.state.Reader.next.Needs as need
+use Rattle.reader.proofs.Reader.next.Needs as need
 
 pub returns-in-Some-found : need.returns-in-Some-found
 returns-in-Some-found c =
