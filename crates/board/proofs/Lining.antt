@@ -13,7 +13,7 @@ use Rattle.feed.specs.declared.message.Summary.{Summary}
 use Rattle.feed.specs.declared.message.Update.{Update}
 use Rattle.text.specs.Price.{priceText}
 use Rattle.text.specs.Symbol.{trimmedOf}
-use Rattle.board.specs.Lines.{hexPair, letterText, wordText, conditionText, seriesText, updateLine, summaryLine, unknownLine, reasonText, layerText, faultLine}
+use Rattle.board.specs.Lines.{capitalPair, letterText, wordText, conditionText, seriesText, updateLine, summaryLine, unknownLine, reasonText, layerText, faultLine}
 
 pub series : (symbol w : List ℕ) (a : ℕ) → w ≡ trimmedOf symbol → wordText w ++ (codes " " ++ letterText a) ≡ seriesText symbol a
 unfolding seriesText
@@ -39,7 +39,7 @@ pub summary-line : (s : Summary) →
 unfolding summaryLine
 summary-line s = simp append-assoc
 
-pub unknown-line : (m : List ℕ) (k : ℕ) → k ≡ typeOf m → codes "unknown 0x" ++ (hexPair k ++ (codes ", " ++ (decimal (length m) ++ codes " bytes"))) ≡ unknownLine m
+pub unknown-line : (m : List ℕ) (k : ℕ) → k ≡ typeOf m → codes "unknown 0x" ++ (capitalPair k ++ (codes ", " ++ (decimal (length m) ++ codes " bytes"))) ≡ unknownLine m
 unfolding unknownLine
 unknown-line m k e = rw e
 

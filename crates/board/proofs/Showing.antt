@@ -11,10 +11,10 @@ use Rattle.std.proofs.shelf.Lists.{take-more, joined-more}
 use Rattle.std.proofs.shelf.Text.{encode-ascii}
 use Rattle.std.proofs.shelf.Ways.{tells}
 use Rattle.std.specs.Text.{within, asciiGraphic}
-use Rattle.board.specs.Lines.{hexDigit, hexPair, letterText, wordText, conditionText}
+use Rattle.board.specs.Lines.{capitalDigit, capitalPair, letterText, wordText, conditionText}
 
 -- two hex digits as characters
-pub pair : (b c d : ℕ) → c ≡ hexDigit (b / 16) → c < 128 → d ≡ hexDigit (b % 16) → d < 128 → encode c ++ encode d ≡ hexPair b
+pub pair : (b c d : ℕ) → c ≡ capitalDigit (b / 16) → c < 128 → d ≡ capitalDigit (b % 16) → d < 128 → encode c ++ encode d ≡ capitalPair b
 pair b c d p small q low =
     let e = encode-ascii c small in
     let f = encode-ascii d low in
@@ -35,7 +35,7 @@ visible b c same w =
     let e = encode-ascii c (omega arith) in
     rw (w, e) (ap (λ (n : ℕ). n ∷ []) same)
 
-pub hidden : (b : ℕ) → asciiGraphic b ≡ false → codes "0x" ++ hexPair b ≡ conditionText b
+pub hidden : (b : ℕ) → asciiGraphic b ≡ false → codes "0x" ++ capitalPair b ≡ conditionText b
 unfolding conditionText
 hidden b w = rw w
 

@@ -21,16 +21,16 @@ use Rattle.text.specs.Price.{priceText}
 use Rattle.text.specs.Symbol.{trimmedOf}
 
 -- an upper-case hex digit
-abbrev pub hexDigit : ℕ → ℕ
-hexDigit d = cond (ltb d 10) (48 + d) (55 + d)
+abbrev pub capitalDigit : ℕ → ℕ
+capitalDigit d = cond (ltb d 10) (48 + d) (55 + d)
 
 -- a byte in two such digits
-abbrev pub hexPair : ℕ → List ℕ
-hexPair b = hexDigit (b / 16) ∷ (hexDigit (b % 16) ∷ [])
+abbrev pub capitalPair : ℕ → List ℕ
+capitalPair b = capitalDigit (b / 16) ∷ (capitalDigit (b % 16) ∷ [])
 
 -- a byte from 0x20 to 0x7E as it is, any other as \xNN
 abbrev pub letterText : ℕ → List ℕ
-letterText b = cond (within 0x20 0x7e b) (b ∷ []) (codes "\\x" ++ hexPair b)
+letterText b = cond (within 0x20 0x7e b) (b ∷ []) (codes "\\x" ++ capitalPair b)
 
 -- bytes as text
 unfoldable pub wordText : List ℕ → List ℕ
@@ -38,7 +38,7 @@ wordText bs = joined letterText bs
 
 -- a byte from 0x21 to 0x7E as it is, any other as 0xNN
 unfoldable pub conditionText : ℕ → List ℕ
-conditionText b = cond (asciiGraphic b) (b ∷ []) (codes "0x" ++ hexPair b)
+conditionText b = cond (asciiGraphic b) (b ∷ []) (codes "0x" ++ capitalPair b)
 
 -- a symbol without its trailing blanks, and an auction letter
 unfoldable pub seriesText : List ℕ → ℕ → List ℕ
@@ -61,7 +61,7 @@ summaryLine s =
 
 -- a message of an unknown type: the type, and the number of its bytes
 unfoldable pub unknownLine : List ℕ → List ℕ
-unknownLine m = codes "unknown 0x" ++ hexPair (typeOf m) ++ codes ", " ++ decimal (length m) ++ codes " bytes"
+unknownLine m = codes "unknown 0x" ++ capitalPair (typeOf m) ++ codes ", " ++ decimal (length m) ++ codes " bytes"
 
 -- a message by what it tells
 abbrev pub messageLine : Notice → List ℕ

@@ -2,13 +2,13 @@
 ghost use mathlib.Core.Path.{_≡_};
 ghost use Prim.Native.Nat.{_<_};
 ghost use Rattle.std.specs.declared.option.Option.the-variants.{Some};
-ghost use Rattle.board.specs.Lines.{hexDigit, hexPair, letterText, wordText, conditionText};
+ghost use Rattle.board.specs.Lines.{capitalDigit, capitalPair, letterText, wordText, conditionText};
 use std::fmt;
 
 // An upper-case hex digit.
 fn hex_digit(d: u8) -> char
     requires { ⌜ d < 16 ⌝ }
-    ensures value { λ r. ⌜ r ≡ hexDigit d ⌝ }
+    ensures value { λ r. ⌜ r ≡ capitalDigit d ⌝ }
     ensures ascii { λ r. ⌜ r < 128 ⌝ }
 {
     char::from(if d < 10 { b'0' + d } else { b'A' + (d - 10) })
@@ -19,7 +19,7 @@ fn hex_digit(d: u8) -> char
 pub(crate) struct Pair(pub(crate) u8);
 
 pub(crate) impl fmt::Display for Pair as PairDisplay {
-    ghost shown = { λ p. Some (hexPair (p .0)) };
+    ghost shown = { λ p. Some (capitalPair (p .0)) };
 
     fn fmt<W: fmt::Write>(&self, f: &mut fmt::Formatter<W>) -> fmt::Result {
         write!(f, "{}{}", hex_digit(self.0 / 16), hex_digit(self.0 % 16))

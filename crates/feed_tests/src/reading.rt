@@ -1,7 +1,7 @@
 // What a reader answers at the edges.
 use crate::sample::FRAME;
-use crate::sample::summary;
-use crate::sample::update;
+use crate::sample::SUMMARY;
+use crate::sample::UPDATE;
 use feed::Fault;
 use feed::FaultDebug;
 use feed::FaultPartialEq;
@@ -177,11 +177,11 @@ fn the_first_fault_counts() -> Result<(), Fail> {
 fn values() -> Result<(), Fail> {
     let mut reader = Reader::new(&FRAME);
     match reader.next() {
-        Ok(Some(Message::Update(u))) => check_eq(u, update())?,
+        Ok(Some(Message::Update(u))) => check_eq(u, UPDATE)?,
         _ => return Err(Fail::new("no update")),
     }
     match reader.next() {
-        Ok(Some(Message::Summary(s))) => check_eq(s, summary())?,
+        Ok(Some(Message::Summary(s))) => check_eq(s, SUMMARY)?,
         _ => return Err(Fail::new("no summary")),
     }
     let mut reader = Reader::new(&[13, 0, 1, 0, 0, 0, 0, 0, 5, 0x20, 7, 8, 9]);
@@ -204,11 +204,11 @@ fn grown() -> Result<(), Fail> {
     put(&mut frame, 8, &[72]);
     let mut reader = Reader::new(&frame);
     match reader.next() {
-        Ok(Some(Message::Update(u))) => check_eq(u, update())?,
+        Ok(Some(Message::Update(u))) => check_eq(u, UPDATE)?,
         _ => return Err(Fail::new("no update")),
     }
     match reader.next() {
-        Ok(Some(Message::Summary(s))) => check_eq(s, summary())?,
+        Ok(Some(Message::Summary(s))) => check_eq(s, SUMMARY)?,
         _ => return Err(Fail::new("no summary")),
     }
     reads_to(&frame, 2, None)

@@ -4,31 +4,27 @@ use feed::Update;
 
 pub const SYMBOL: [u8; 8] = *b"00mEVO  ";
 
-pub fn update() -> Update {
-    Update {
-        offset: 447_000,
-        symbol: SYMBOL,
-        auction: b'V',
-        reference: 1_025_000,
-        buy: 100,
-        sell: 200,
-        indicative: 1_025_000,
-        auction_only: 1_025_000,
-        condition: b'O',
-        bid: 1_010_000,
-        offer: 1_030_000,
-    }
-}
+pub const UPDATE: Update = Update {
+    offset: 447_000,
+    symbol: SYMBOL,
+    auction: b'V',
+    reference: 1_025_000,
+    buy: 100,
+    sell: 200,
+    indicative: 1_025_000,
+    auction_only: 1_025_000,
+    condition: b'O',
+    bid: 1_010_000,
+    offer: 1_030_000,
+};
 
-pub fn summary() -> Summary {
-    Summary {
-        offset: 447_000,
-        symbol: SYMBOL,
-        auction: b'O',
-        price: 1_025_000,
-        contracts: 75,
-    }
-}
+pub const SUMMARY: Summary = Summary {
+    offset: 447_000,
+    symbol: SYMBOL,
+    auction: b'O',
+    price: 1_025_000,
+    contracts: 75,
+};
 
 // The frame of the two: the update at byte 8, the summary at byte 72, the end at byte 99.
 pub const FRAME: [u8; 99] = *b"\x63\x00\x02\x00\x00\x00\x00\x00\

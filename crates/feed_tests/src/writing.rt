@@ -1,7 +1,7 @@
 // What the writer takes and refuses at the edges.
 use crate::sample::FRAME;
-use crate::sample::summary;
-use crate::sample::update;
+use crate::sample::SUMMARY;
+use crate::sample::UPDATE;
 use feed::Encode;
 use feed::Summary;
 use feed::SummaryEncode;
@@ -20,8 +20,8 @@ use writer::start;
 fn sample() -> Result<(), Fail> {
     let mut buffer = [0xffu8; 200];
     check_eq(start(&mut buffer), Ok(()))?;
-    check_eq(add(&mut buffer, &update()), Ok(()))?;
-    check_eq(add(&mut buffer, &summary()), Ok(()))?;
+    check_eq(add(&mut buffer, &UPDATE), Ok(()))?;
+    check_eq(add(&mut buffer, &SUMMARY), Ok(()))?;
     check(frame(&buffer) == &FRAME)
 }
 
@@ -44,11 +44,11 @@ fn buffers() -> Result<(), Fail> {
         }
         let buffer = &mut space[0..size];
         check_eq(start(buffer).is_ok(), begins)?;
-        check_eq(add(buffer, &summary()).is_ok(), summed)?;
+        check_eq(add(buffer, &SUMMARY).is_ok(), summed)?;
         let mut space = [0u8; 72];
         let buffer = &mut space[0..size];
         check_eq(start(buffer).is_ok(), begins)?;
-        check_eq(add(buffer, &update()).is_ok(), updated)?;
+        check_eq(add(buffer, &UPDATE).is_ok(), updated)?;
     }
     Ok(())
 }
@@ -57,10 +57,10 @@ fn buffers() -> Result<(), Fail> {
 fn filled(buffer: &mut [u8], updates: usize) -> Result<usize, Fail> {
     check_eq(start(buffer), Ok(()))?;
     for _ in 0..updates {
-        check_eq(add(buffer, &update()), Ok(()))?;
+        check_eq(add(buffer, &UPDATE), Ok(()))?;
     }
     for taken in 0..100 {
-        if add(buffer, &summary()).is_err() {
+        if add(buffer, &SUMMARY).is_err() {
             return Ok(taken);
         }
     }
@@ -73,7 +73,7 @@ fn longest() -> Result<(), Fail> {
     let mut buffer = [0u8; 2000];
     check_eq(filled(&mut buffer, 6)?, 41)?;
     check_eq(frame(&buffer).len(), 1499)?;
-    check_eq(add(&mut buffer, &summary()), Err(Refusal::NoRoom))?;
+    check_eq(add(&mut buffer, &SUMMARY), Err(Refusal::NoRoom))?;
     check_eq(filled(&mut buffer, 17)?, 14)?;
     check_eq(frame(&buffer).len(), 1474)?;
     check_eq(filled(&mut buffer, 0)?, 55)?;
@@ -104,7 +104,7 @@ fn last_bytes() -> Result<(), Fail> {
         let buffer = &mut space[0..size];
         let [low, high] = u16::to_le_bytes(length);
         put(buffer, 0, &[low, high, 1]);
-        check_eq(add(buffer, &summary()).is_ok(), taken)?;
+        check_eq(add(buffer, &SUMMARY).is_ok(), taken)?;
         let after = if taken {
             usize::from(length) + 27
         } else {
@@ -116,7 +116,7 @@ fn last_bytes() -> Result<(), Fail> {
 }
 
 fn with_symbol(byte: u8) -> Summary {
-    let mut summary = summary();
+    let mut summary = SUMMARY;
     summary.symbol = [b'A', byte, b' ', b' ', b' ', b' ', b' ', b' '];
     summary
 }
@@ -149,7 +149,7 @@ fn fields() -> Result<(), Fail> {
     for (letter, fit) in letters {
         let mut buffer = [0u8; 72];
         check_eq(start(&mut buffer), Ok(()))?;
-        let mut update = update();
+        let mut update = UPDATE;
         update.auction = letter;
         check_eq(add(&mut buffer, &update).is_ok(), fit)?;
     }
@@ -204,12 +204,12 @@ fn fields() -> Result<(), Fail> {
 // Buffers that hold no frame, and a frame that counts as many messages as a header can.
 #[test]
 fn no_frame() -> Result<(), Fail> {
-    check_eq(add(&mut [0u8; 100], &summary()), Err(Refusal::NoRoom))?;
-    check_eq(add(&mut [0xffu8; 100], &summary()), Err(Refusal::NoRoom))?;
+    check_eq(add(&mut [0u8; 100], &SUMMARY), Err(Refusal::NoRoom))?;
+    check_eq(add(&mut [0xffu8; 100], &SUMMARY), Err(Refusal::NoRoom))?;
     let mut buffer = [0u8; 100];
     check_eq(start(&mut buffer), Ok(()))?;
     buffer[2] = 255;
-    check_eq(add(&mut buffer, &summary()), Err(Refusal::NoRoom))?;
+    check_eq(add(&mut buffer, &SUMMARY), Err(Refusal::NoRoom))?;
     check_eq(frame(&[]).len(), 0)?;
     check_eq(frame(&[5]).len(), 1)?;
     check_eq(frame(&[1, 0, 9]).len(), 1)

@@ -6,8 +6,7 @@ use Prim.Native.Nat.{ℕ, _+_, _-_, _≤_, _<_}
 use native.Mathlib.Omega.{arith}
 use lib.ListN.{length, getD, take, drop}
 use Rattle.std.proofs.shelf.Lists.{at-drop-more, at-drop-all, take-rest}
-use Rattle.text.specs.Hex.{onFirst}
-use Rattle.text.specs.Word.{isBlank, isInk, before, onward, wordOf, behindWord, piecesOf, inked, wordList, leading}
+use Rattle.text.specs.Word.{isBlank, isInk, before, onward, wordOf, behindWord, onFirst, piecesOf, inked, wordList, leading}
 
 -- how many bytes stand before the first that the test takes
 abbrev pub span : (ℕ → Bool) → List ℕ → ℕ

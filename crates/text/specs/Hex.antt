@@ -3,10 +3,11 @@ use mathlib.Core.Bool.{Bool, true, false, cond, _&&_, _||_}
 use mathlib.Core.List.{List, [], _∷_, _++_}
 use mathlib.Core.Path.{_≡_}
 use Prim.Native.Nat.{ℕ, _+_, _-_, _*_, _/_, _%_, _<_}
-use lib.Dec.{ltb, eqb}
+use lib.Dec.{ltb}
 use lib.ListN.{length, take, drop}
 use Rattle.std.specs.Text.{within, asciiDigit, digitChar}
 use Rattle.std.specs.shelf.Lists.{All, joined}
+use Rattle.text.specs.Word.{uncommentedOf, wordList}
 use Rattle.std.specs.declared.option.Option.{Option}
 use Rattle.std.specs.declared.option.Option.the-variants.{Some, None}
 
@@ -51,16 +52,6 @@ hexText bs = drop 1 (blankPairs bs)
 abbrev pub Keeps : List ℕ → List ℕ → Type 0
 Keeps old new = take (length old) new ≡ old
 
--- a byte before the first of the words
-abbrev pub onFirst : ℕ → List (List ℕ) → List (List ℕ)
-onFirst c [] = (c ∷ []) ∷ []
-onFirst c (w ∷ ws) = (c ∷ w) ∷ ws
-
--- the words between single blanks
-abbrev pub wordsOf : List ℕ → List (List ℕ)
-wordsOf [] = [] ∷ []
-wordsOf (c ∷ cs) = cond (eqb c 32) ([] ∷ wordsOf cs) (onFirst c (wordsOf cs))
-
--- each word of what is written is hex pairs, and together they write the bytes again
+-- a line of what is written, read as any line is: each of its words is hex pairs, and together they write the bytes again
 abbrev pub HexReadsBack : Type 0
-HexReadsBack = (bs : List ℕ) → All (λ b. b < 256) bs → All (λ w. isHexPairs w ≡ true) (wordsOf (hexText bs)) × (joined hexBytes (wordsOf (hexText bs)) ≡ bs)
+HexReadsBack = (bs : List ℕ) → All (λ b. b < 256) bs → All (λ w. isHexPairs w ≡ true) (wordList (uncommentedOf (hexText bs))) × (joined hexBytes (wordList (uncommentedOf (hexText bs))) ≡ bs)

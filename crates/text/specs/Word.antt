@@ -3,7 +3,6 @@ use mathlib.Core.Bool.{Bool, cond, not, _||_}
 use mathlib.Core.List.{List, [], _∷_}
 use Prim.Native.Nat.{ℕ}
 use lib.Dec.{eqb}
-use Rattle.text.specs.Hex.{onFirst}
 
 -- the bytes before the first that the test takes; all where it takes none
 abbrev pub before : (ℕ → Bool) → List ℕ → List ℕ
@@ -38,6 +37,11 @@ wordOf line = before isBlank (onward isInk line)
 -- what stands behind the first word
 abbrev pub behindWord : List ℕ → List ℕ
 behindWord line = onward isBlank (onward isInk line)
+
+-- a byte before the first of the pieces
+abbrev pub onFirst : ℕ → List (List ℕ) → List (List ℕ)
+onFirst c [] = (c ∷ []) ∷ []
+onFirst c (w ∷ ws) = (c ∷ w) ∷ ws
 
 -- the pieces between single blanks, the empty ones too
 abbrev pub piecesOf : List ℕ → List (List ℕ)
