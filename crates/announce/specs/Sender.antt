@@ -1,9 +1,8 @@
 -- A message that is to be sent.
-use mathlib.Core.List.{List, [], _∷_, _++_}
+use mathlib.Core.List.{List, []}
 use mathlib.Core.Logic.{_⊎_}
 use Prim.Native.Nat.{ℕ}
 use Rattle.std.specs.declared.option.Option.{Option}
-use Rattle.std.specs.declared.option.Option.the-variants.{Some, None}
 use Rattle.feed.specs.Sending.{Sent}
 use Rattle.writer.specs.Writing.{Holds, sentAfter}
 use Rattle.writer.specs.declared.refusal.Refusal.{Refusal}

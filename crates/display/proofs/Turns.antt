@@ -6,7 +6,7 @@ use Prim.Native.Nat.{ℕ, _+_, _<_}
 use native.Mathlib.Omega.{arith}
 use lib.ListN.{length}
 use Rattle.std.specs.declared.option.Option.{Option}
-use Rattle.std.specs.declared.option.Option.the-variants.{Some, None}
+use Rattle.std.specs.declared.option.Option.the-variants.{Some}
 use Rattle.text.specs.Hex.{isHexPairs, hexBytes}
 use Rattle.text.specs.Word.{isBlank, isInk, before, onward, wordOf, behindWord, leading}
 use Rattle.display.specs.Hexes.{badWord, bytesIn}

@@ -1,6 +1,6 @@
 -- What a message is that reads as an update or a summary.
-use mathlib.Core.Path.{_≡_, refl, sym, ap, _∙_}
-use mathlib.Core.Bool.{Bool, true, false, cond, _&&_}
+use mathlib.Core.Path.{_≡_, refl, ap, _∙_}
+use mathlib.Core.Bool.{Bool, true, false, cond}
 use mathlib.Core.List.{List}
 use Prim.Native.Nat.{ℕ, _≤_}
 use native.Mathlib.Omega.{arith}
@@ -9,7 +9,7 @@ use lib.ListN.{length, getD}
 use Rattle.std.proofs.shelf.Tests.{eqb-true, ltb-false, cond-true, cond-false, eq-eqb, ne-eqb, le-ltb}
 use Rattle.std.specs.declared.option.Option.the-variants.{Some, None}
 use Rattle.std.specs.declared.result.Result.{Result}
-use Rattle.std.specs.declared.result.Result.the-variants.{Ok, Err}
+use Rattle.std.specs.declared.result.Result.the-variants.{Ok}
 use Rattle.feed.specs.Bytes.{cells}
 use Rattle.feed.specs.Layouts.{Notice, update, summary, unknown, Types, typeOf, symbolFit, letterFit, updateOf, summaryOf, flaw, checked, published, understood}
 use Rattle.feed.specs.Sending.{Sent, sentUpdate, sentSummary, meant}

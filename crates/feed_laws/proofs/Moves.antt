@@ -2,7 +2,7 @@
 use mathlib.Core.Path.{_≡_, refl, ap, _∙_}
 use mathlib.Core.Bool.{Bool, true, false, cond}
 use mathlib.Core.List.{List}
-use Prim.Native.Nat.{ℕ, zero, suc, _+_}
+use Prim.Native.Nat.{ℕ, suc, _+_}
 use native.Mathlib.Omega.{arith}
 use lib.Dec.{ltb, eqb}
 use lib.ListN.{length, getD}
@@ -12,8 +12,8 @@ use Rattle.std.specs.declared.result.Result.{Result}
 use Rattle.std.specs.declared.result.Result.the-variants.{Ok, Err}
 use Rattle.feed.specs.Bytes.{cells}
 use Rattle.feed.specs.Faults.{faultAt}
-use Rattle.feed.specs.Layouts.{Notice, update, summary, unknown, Types, typeOf, symbolFit, letterFit, updateOf, summaryOf, flaw, checked, published, understood}
-use Rattle.feed.specs.Frames.{Said, says, ends, breaks, followed}
+use Rattle.feed.specs.Layouts.{Notice, update, summary, Types, typeOf, symbolFit, letterFit, updateOf, summaryOf, flaw, checked, understood}
+use Rattle.feed.specs.Frames.{Said, followed}
 use Rattle.feed.specs.declared.fault.Fault.{Fault}
 use Rattle.feed.specs.declared.fault.Reason.the-variants.{Short, Symbol, Letter}
 use Rattle.feed_laws.specs.Laws.{movedBy, movedAfter}

@@ -1,20 +1,19 @@
 -- One message: written and read, read and written, grown.
 use mathlib.Core.Path.{_≡_, refl, sym, ap, _∙_}
-use mathlib.Core.Bool.{true, _&&_}
 use mathlib.Core.List.{List, [], _∷_, _++_}
-use Prim.Native.Nat.{ℕ, zero, suc, _+_, _^_, _<_, _≤_}
+use Prim.Native.Nat.{ℕ, _+_}
 use native.Mathlib.Omega.{arith}
-use lib.ListN.{length, getD, drop, length-append}
+use lib.ListN.{length, getD, length-append}
 use Rattle.std.proofs.shelf.Lists.{getD-append-left}
 use Rattle.std.proofs.shelf.Tests.{and-parts}
-use Rattle.std.specs.declared.result.Result.the-variants.{Ok, Err}
-use Rattle.feed.specs.Bytes.{cells, le, bytes, AreBytes}
+use Rattle.std.specs.declared.result.Result.the-variants.{Ok}
+use Rattle.feed.specs.Bytes.{cells, AreBytes}
 use Rattle.feed.specs.Layouts.{Types, typeOf, everyType, understood, symbolFit, letterFit, updateOf, summaryOf}
 use Rattle.feed.specs.Sending.{Sent, sentUpdate, sentSummary, meant, encoded, sizeOf, updateBytes, summaryBytes, Fit}
 use Rattle.feed.proofs.Lays.{cells-whole}
 use Rattle.feed_laws.specs.Laws.{OwnLength, grown, WritingWhatWasReadGivesTheSameBytes}
 use Rattle.feed_laws.proofs.Numbers.{le-bytes, cells-again, cells-front}
-use Rattle.feed_laws.proofs.Forms.{Passed, Tells, understood-tells, tells-understood}
+use Rattle.feed_laws.proofs.Forms.{Tells, understood-tells, tells-understood}
 
 -- what was written tells what was meant
 pub written-tells : (x : Sent) → Fit x → Tells (encoded x) x

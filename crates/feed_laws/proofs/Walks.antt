@@ -1,28 +1,25 @@
 -- Whole frames.
 use mathlib.Core.Path.{_≡_, refl, sym, ap, subst, _∙_}
-use mathlib.Core.Bool.{Bool, true, false, cond, _&&_}
 use mathlib.Core.Logic.{_⊎_, inl, inr, ⊎-elim}
-use mathlib.Core.List.{List, [], _∷_, _++_, map, append-assoc, append-nil}
+use mathlib.Core.List.{List, [], _∷_, _++_, map, append-assoc}
 use Prim.Native.Nat.{ℕ, zero, suc, _+_, _-_, _^_, _<_, _≤_}
 use native.Mathlib.Omega.{arith}
-use lib.Dec.{leb, ltb, eqb}
+use lib.Dec.{leb, eqb}
 use lib.ListN.{length, getD, take, drop, length-append}
 use Rattle.std.proofs.shelf.Tests.{cond-true, cond-false, le-ltb, lt-ltb, le-leb, eq-eqb, lt-leb, and-from, and-left, and-right, cases-lt}
 use Rattle.std.proofs.shelf.Lists.{getD-append-add, drop-at, take-at, take-append-drop, length-take-le, getD-take}
-use Rattle.std.specs.declared.result.Result.{Result}
 use Rattle.std.specs.declared.result.Result.the-variants.{Ok, Err}
 use Rattle.feed.specs.Bytes.{cells, le, bytes}
 use Rattle.feed.specs.Faults.{faultAt}
-use Rattle.feed.specs.Layouts.{Notice, unknown, Types, everyType, published, understood}
-use Rattle.feed.specs.Frames.{Said, says, ends, breaks, saying, followed, Part, partAt, cutFrom, countOf, cut, told, frameSays}
+use Rattle.feed.specs.Layouts.{unknown, Types, everyType, published, understood}
+use Rattle.feed.specs.Frames.{says, ends, breaks, saying, followed, partAt, cutFrom, countOf, cut, told, frameSays}
 use Rattle.feed.specs.Sending.{Sent, meant, encoded, AllFit, behind, framed, frameOf}
-use Rattle.feed.specs.declared.fault.Fault.{Fault}
 use Rattle.feed.specs.declared.fault.Reason.the-variants.{Length, Leftover}
 use Rattle.feed.proofs.Parts.{whole-part}
 use Rattle.feed_laws.specs.Laws.{OwnLength, AllOwn, AllUnknown, placed, grown, movedBy, movedAfter, ReadingReturnsWhatWasWritten, EveryReaderFindsEveryMessage, UnknownTypesAreSteppedOver, GrownAtItsEndReadsAsBefore}
 use Rattle.feed_laws.proofs.Numbers.{le-bytes}
 use Rattle.feed_laws.proofs.Trips.{written-read, written-own, grown-read, read-anywhere, grown-own, grown-length}
-use Rattle.feed_laws.proofs.Moves.{readMoved, understood-moves, followed-moves, followed-after}
+use Rattle.feed_laws.proofs.Moves.{understood-moves, followed-moves, followed-after}
 
 -- the byte behind p
 here : (p r : List ℕ) → getD (p ++ r) (length p) 0 ≡ getD r 0 0

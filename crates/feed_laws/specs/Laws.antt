@@ -4,11 +4,10 @@ use mathlib.Core.Bool.{false}
 use mathlib.Core.List.{List, [], _∷_, _++_, map}
 use Prim.Native.Nat.{ℕ, zero, suc, _+_, _^_, _<_, _≤_}
 use lib.ListN.{length, getD, drop}
-use Rattle.std.specs.declared.result.Result.{Result}
-use Rattle.std.specs.declared.result.Result.the-variants.{Ok, Err}
+use Rattle.std.specs.declared.result.Result.the-variants.{Ok}
 use Rattle.feed.specs.Bytes.{AreBytes}
 use Rattle.feed.specs.Faults.{faultAt}
-use Rattle.feed.specs.Layouts.{Notice, update, summary, unknown, Types, typeOf, everyType, understood}
+use Rattle.feed.specs.Layouts.{update, summary, unknown, Types, typeOf, everyType, understood}
 use Rattle.feed.specs.Frames.{Said, says, ends, breaks, saying, Part, told, frameSays}
 use Rattle.feed.specs.Sending.{Sent, meant, encoded, sizeOf, AllFit, behind, framed, frameOf}
 

@@ -1,5 +1,4 @@
 -- A reader: what it has yet to say, and how a call moves it.
-use mathlib.Core.Path.{_≡_}
 use mathlib.Core.List.{List}
 use Prim.Native.Nat.{ℕ, _+_, _-_}
 use lib.ListN.{getD}
@@ -10,7 +9,7 @@ use Rattle.std.specs.declared.result.Result.{Result}
 use Rattle.std.specs.declared.result.Result.the-variants.{Ok, Err}
 use Rattle.feed.specs.Layouts.{Notice, everyType}
 use Rattle.feed.specs.Frames.{Said, breaks, cutFrom, countOf, told, first}
-use Rattle.feed.specs.Shown.{noticeOf, LentAt}
+use Rattle.feed.specs.Shown.{noticeOf}
 use Rattle.feed.specs.declared.decode.Found.{Found}
 use Rattle.feed.specs.declared.fault.Fault.{Fault}
 use Rattle.feed.specs.declared.message.Message.{Message}

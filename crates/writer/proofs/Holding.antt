@@ -2,18 +2,18 @@
 use mathlib.Core.Path.{_≡_, refl, sym, ap, subst, _∙_}
 use mathlib.Core.Bool.{Bool, true, false, cond}
 use mathlib.Core.List.{List, [], _∷_, _++_, map, append-assoc, append-nil}
-use Prim.Native.Nat.{ℕ, zero, suc, _+_, _*_, _^_, _<_, _≤_}
+use Prim.Native.Nat.{ℕ, suc, _+_, _*_, _^_, _<_, _≤_}
 use native.Mathlib.Omega.{arith}
 use lib.Dec.{leb, ltb}
-use lib.ListN.{length, getD, take, drop, length-append}
+use lib.ListN.{length, take, drop, length-append}
 use Rattle.std.proofs.shelf.Lists.{take-append-drop, take-at, length-push, length-take-le, length-drop}
 use Rattle.std.proofs.shelf.Tests.{cond-true, le-leb, lt-ltb, and-from}
 use Rattle.std.specs.declared.option.Option.{Option}
 use Rattle.std.specs.declared.option.Option.the-variants.{Some, None}
-use Rattle.feed.specs.Bytes.{cells, le, bytes}
+use Rattle.feed.specs.Bytes.{bytes}
 use Rattle.feed.specs.Layouts.{everyType}
 use Rattle.feed.specs.Frames.{saying, frameSays}
-use Rattle.feed.specs.Sending.{Sent, sentUpdate, sentSummary, meant, encoded, sizeOf, fit, Fit, InWidths, AllFit, behind, framed, frameOf, laid}
+use Rattle.feed.specs.Sending.{Sent, sentUpdate, sentSummary, meant, encoded, sizeOf, fit, Fit, InWidths, AllFit, behind, frameOf, laid}
 use Rattle.feed.proofs.Lays.{encoded-size}
 use Rattle.feed_laws.proofs.Numbers.{le-bytes}
 use Rattle.feed_laws.proofs.Walks.{written-trip}

@@ -1,10 +1,10 @@
 use mathlib.Core.Bool.{_&&_}
-use mathlib.Core.Path.{_≡_, sym, ap, _∙_}
+use mathlib.Core.Path.{sym, ap, _∙_}
 use Prim.Native.Nat.{_+_}
-use lib.ListN.{drop, getD}
+use lib.ListN.{drop}
 use borrow.Author.Needs.{needs}
 use Rattle.std.proofs.shelf.Lists.{at-drop-more, at-drop-all}
-use Rattle.feed.specs.Layouts.{printable, symbolFit}
+use Rattle.feed.specs.Layouts.{symbolFit}
 use Rattle.feed.proofs.decode.is_symbol.Needs as need
 
 pub returns-then-not-is-printable : need.returns-then-not-is-printable

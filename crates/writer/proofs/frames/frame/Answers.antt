@@ -1,6 +1,5 @@
-use mathlib.Core.Path.{sym, ap, _∙_}
+use mathlib.Core.Path.{sym}
 use native.Mathlib.Omega.{arith}
-use lib.ListN.{take, length}
 use Rattle.std.proofs.shelf.Lists.{take-all}
 use Rattle.writer.specs.Writing.{lengthIn}
 use Rattle.writer.proofs.frames.frame.Needs as need
