@@ -26,4 +26,4 @@ found (Err fault) = Err fault
 abbrev pub LentAt : ℕ → ℕ → Message → Type 0
 LentAt block byte (Update u) = Unit {0}
 LentAt block byte (Summary s) = Unit {0}
-LentAt block byte (Unknown m) = (m.ptr.0 ≡ block) × (m.ptr.1 ≡ byte)
+LentAt block byte (Unknown m) = (m.ref_ptr.0 ≡ block) × (m.ref_ptr.1 ≡ byte)

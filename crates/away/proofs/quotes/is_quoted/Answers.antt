@@ -7,4 +7,4 @@ use Rattle.away.proofs.quotes.is_quoted.Goals as goal
 pub returns : goal.returns
 returns g c =
     let l = c.args.list.now in
-    (λ i. ltb (c.place-of.ensures i) ((c.len.ensures ∙ sym (length-entries l)) i)) ∙ place_within g.T.Quote.exchange c.args.letter (entries l)
+    (λ i. ltb (c.place_of.ensures i) ((c.len.ensures ∙ sym (length-entries l)) i)) ∙ place_within g.T.Quote.exchange c.args.letter (entries l)

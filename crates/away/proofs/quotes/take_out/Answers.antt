@@ -11,9 +11,9 @@ returns g c =
     let ex = g.T.Quote.exchange in
     let letter = c.args.letter in
     let l = c.args.list.now in
-    let at = c.place-of-at.result in
+    let at = c.place_of-at.result in
     let new = c.remove.new.self in
-    let t = c.place-of-at.ensures in
+    let t = c.place_of-at.ensures in
     let q : quoted ex letter (entries l) ≡ ltb at (count l) = sym (place_within ex letter (entries l)) ∙ ap (λ k. ltb k (length (entries l))) (sym t) ∙ ap (ltb at) (length-entries l) in
     record {
       after = c.remove.ensures.after ∙ ap (remove (entries l)) t ∙ removed_is ex letter (entries l);

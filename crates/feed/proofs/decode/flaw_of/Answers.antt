@@ -6,13 +6,13 @@ pub returns-then-m-n : goal.returns-then-m-n
 unfolding flaw
 returns-then-m-n c = search rules
 
-pub returns-then-not-is-symbol : goal.returns-then-not-is-symbol
+pub returns-then-not-is_symbol : goal.returns-then-not-is_symbol
 unfolding flaw
-returns-then-not-is-symbol c = search rules
+returns-then-not-is_symbol c = search rules
 
-pub returns-then-not-is-letter : goal.returns-then-not-is-letter
+pub returns-then-not-is_letter : goal.returns-then-not-is_letter
 unfolding flaw
-returns-then-not-is-letter c = search rules
+returns-then-not-is_letter c = search rules
 
 pub returns : goal.returns
 unfolding flaw

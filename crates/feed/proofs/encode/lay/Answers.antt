@@ -11,4 +11,4 @@ returns c =
     let m = c.args.m.now in
     let place = c.args.place in
     let n : place + length m - place ≡ length m = omega arith in
-    (λ i. put_mid place (n i) b (c.copy-from-slice.ensures.after i)) ∙ ap (λ z. take place b ++ (m ++ z)) (drop-drop (length m) place b)
+    (λ i. put_mid place (n i) b (c.copy_from_slice.ensures.after i)) ∙ ap (λ z. take place b ++ (m ++ z)) (drop-drop (length m) place b)

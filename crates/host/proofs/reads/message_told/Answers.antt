@@ -7,4 +7,4 @@ use Rattle.host.proofs.reads.message_told.Goals as goal
 
 pub returns-in-Update : goal.returns-in-Update
 returns-in-Update c =
-    ap (λ (ns : List ℕ). let t : Told = record { kind = 1; numbers = ns } in t) c.update-numbers.ensures ∙ ap (λ (m : Message). notice_told c.args.at (notice_of m)) (sym c.in-Update.is)
+    ap (λ (ns : List ℕ). let t : Told = record { kind = 1; numbers = ns } in t) c.update_numbers.ensures ∙ ap (λ (m : Message). notice_told c.args.at (notice_of m)) (sym c.in-Update.is)

@@ -8,8 +8,8 @@ use Rattle.sharing.proofs.claim.fit_to_share.Goals as goal
 unfit : (claims : List Claim) (places : ℕ) → sizes_fit (sizes claims) ≡ false → fits claims places ≡ false
 unfit claims places e = and_right (leb (length claims) 512) _ (and_right (eqb (length claims) places) _ e)
 
-pub returns-then-claim-gt-MAX-SIZE : goal.returns-then-claim-gt-MAX-SIZE
-returns-then-claim-gt-MAX-SIZE c =
+pub returns-then-claim-gt-MAX_SIZE : goal.returns-then-claim-gt-MAX_SIZE
+returns-then-claim-gt-MAX_SIZE c =
     let claims = c.args.claims.now in
     let i = c.loop-claim.claim-index in
     let big = lt-leb (size_at claims i) 100000 (omega arith) in

@@ -29,7 +29,7 @@ overflow-cast-shares c =
 pub loop-i-preserved : goal.loop-i-preserved
 loop-i-preserved c =
     step c.args.n c.args.whole c.args.claims.now c.loop-i.shares c.loop-i.i c.loop-i.left
-    c.from-size.result c.extra-for-more.result (omega arith) (omega arith) c.from-size.ensures c.extra-for-more.ensures
+    c.from-size.result c.extra_for-more.result (omega arith) (omega arith) c.from-size.ensures c.extra_for-more.ensures
     ∙ c.loop-i.invariant
 
 pub returns : goal.returns

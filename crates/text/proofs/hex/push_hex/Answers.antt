@@ -17,15 +17,15 @@ returns-in-err-push c =
     let same = c.in-err-push.ensures.bytes in
     rw p.1 (simp (same, c.loop-i.invariant) (keeps_more (string_bytes c.args.out.now) (hex_text (take c.loop-i.i c.args.bytes.now))))
 
-pub returns-in-err-push-byte : goal.returns-in-err-push-byte
-returns-in-err-push-byte c =
-    let p = err_from_is_err_and c.from-residual-in-err-push-byte.result c.from-residual-in-err-push-byte.ensures.1 in
+pub returns-in-err-push_byte : goal.returns-in-err-push_byte
+returns-in-err-push_byte c =
+    let p = err_from_is_err_and c.from-residual-in-err-push_byte.result c.from-residual-in-err-push_byte.ensures.1 in
     let gap : Gap c.loop-i.i (string_bytes c.loop-i.out) (string_bytes c.if-i-gt0.out) =
     elim c.if-i-gt0.branch [
       | then-i-gt0+in-ok-push w ↦ inl (w.if-i-gt0.true, ap string_bytes w.out-is ∙ w.in-ok-push.ensures.bytes ∙ ap (λ l. string_bytes c.loop-i.out ++ l) (w.push.ensures.ascii (omega arith)))
       | else-i-gt0 w ↦ inr (w.if-i-gt0.false, ap string_bytes w.out-is)
     ] in
-    rw p.1 (text_keeps (string_bytes c.args.out.now) (string_bytes c.loop-i.out) (string_bytes c.if-i-gt0.out) (string_bytes c.push-byte.new.out) c.args.bytes.now c.loop-i.i c.loop-i.invariant gap c.in-err-push-byte.ensures)
+    rw p.1 (text_keeps (string_bytes c.args.out.now) (string_bytes c.loop-i.out) (string_bytes c.if-i-gt0.out) (string_bytes c.push_byte.new.out) c.args.bytes.now c.loop-i.i c.loop-i.invariant gap c.in-err-push_byte.ensures)
 
 pub loop-i-preserved : goal.loop-i-preserved
 loop-i-preserved c =
@@ -34,7 +34,7 @@ loop-i-preserved c =
       | then-i-gt0+in-ok-push w ↦ inl (w.if-i-gt0.true, ap string_bytes w.out-is ∙ w.in-ok-push.ensures.bytes ∙ ap (λ l. string_bytes c.loop-i.out ++ l) (w.push.ensures.ascii (omega arith)))
       | else-i-gt0 w ↦ inr (w.if-i-gt0.false, ap string_bytes w.out-is)
     ] in
-    text_more (string_bytes c.args.out.now) (string_bytes c.loop-i.out) (string_bytes c.if-i-gt0.out) (string_bytes c.push-byte.new.out) c.args.bytes.now c.loop-i.i c.loop-i-test.true c.loop-i.invariant gap c.in-ok-push-byte.ensures
+    text_more (string_bytes c.args.out.now) (string_bytes c.loop-i.out) (string_bytes c.if-i-gt0.out) (string_bytes c.push_byte.new.out) c.args.bytes.now c.loop-i.i c.loop-i-test.true c.loop-i.invariant gap c.in-ok-push_byte.ensures
 
 pub returns : goal.returns
 returns c = c.loop-i.invariant ∙ ap (λ l. string_bytes c.args.out.now ++ hex_text l) (take_all c.loop-i.i c.args.bytes.now c.loop-i-test.false)

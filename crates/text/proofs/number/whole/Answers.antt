@@ -4,9 +4,9 @@ use Rattle.std.proofs.lemmas.Bool.{eqb-false}
 use Rattle.text.proofs.Folding.{read_on_stops, read_on_goes, read_on_ends, appended_fits}
 use Rattle.text.proofs.number.whole.Goals as goal
 
-pub returns-then-is-empty : goal.returns-then-is-empty
+pub returns-then-is_empty : goal.returns-then-is_empty
 unfolding whole_of
-returns-then-is-empty c = search rules
+returns-then-is_empty c = search rules
 
 pub returns-in-err-n : goal.returns-in-err-n
 returns-in-err-n c =
@@ -21,5 +21,5 @@ loop-b-preserved c = (
 
 pub returns : goal.returns
 returns c =
-    let some : 0 < length c.args.word.now = omega (arith, eqb-false (length c.args.word.now) 0 (sym c.if-is-empty.ensures)) in
+    let some : 0 < length c.args.word.now = omega (arith, eqb-false (length c.args.word.now) 0 (sym c.if-is_empty.ensures)) in
     read_on_ends c.args.word.now c.loop-b.b-index c.loop-b.n c.loop-b-test.false some c.loop-b.invariant.0 c.loop-b.invariant.1

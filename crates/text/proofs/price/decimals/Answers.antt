@@ -16,4 +16,4 @@ returns c =
       | in-3 w ↦ (omega arith, omega arith, w.unit-is ∙ sym (ap (λ n. 10 ^ (4 - n)) w.in-3.is))
       | in-4 w ↦ (omega arith, omega arith, w.unit-is ∙ sym (ap (λ n. 10 ^ (4 - n)) w.in-4.is))
     ] in
-    decimals_some c.args.digits.now c.in-ok-whole.field-0 c.match-digits.unit c.checked-mul.result u c.in-ok-whole.ensures c.checked-mul.ensures
+    decimals_some c.args.digits.now c.in-ok-whole.field-0 c.match-digits.unit c.checked_mul.result u c.in-ok-whole.ensures c.checked_mul.ensures

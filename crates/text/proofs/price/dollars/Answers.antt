@@ -33,8 +33,8 @@ pub returns : goal.returns
 returns c =
     let h = c.in-ok-units.ensures in
     let l : length (before_point c.args.word.now) < length c.args.word.now = omega (arith, c.if-i-word.false, c.position-i.ensures.value, c.position-i.ensures.bound) in
-    let P : ℕ → Type 0 = λ n. SomeIff c.checked-add.result (n + c.in-ok-decimals.field-0 < 2 ^ 64) (n + c.in-ok-decimals.field-0) in
-    dollars_full c.args.word.now c.in-ok-whole.field-0 c.in-ok-decimals.field-0 c.checked-add.result
+    let P : ℕ → Type 0 = λ n. SomeIff c.checked_add.result (n + c.in-ok-decimals.field-0 < 2 ^ 64) (n + c.in-ok-decimals.field-0) in
+    dollars_full c.args.word.now c.in-ok-whole.field-0 c.in-ok-decimals.field-0 c.checked_add.result
     (c.in-ok-whole.ensures ∙ ap whole_of (front_is c.args.word.now c.position-i.result c.position-i.ensures.value)) l
     (c.in-ok-decimals.ensures ∙ ap decimals_of (back_is c.args.word.now c.position-i.result c.position-i.ensures.value))
-    (subst P h.1 c.checked-add.ensures)
+    (subst P h.1 c.checked_add.ensures)

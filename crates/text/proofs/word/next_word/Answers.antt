@@ -6,6 +6,6 @@ use Rattle.text.proofs.word.next_word.Goals as goal
 pub returns : goal.returns
 returns c =
     let text = c.unblanked-text.ensures in
-    let front = c.split-at.ensures.front ∙ front_is is_blank c.unblanked-text.result.now c.ink.result c.ink.ensures.value ∙ ap (before is_blank) text in
-    let back = c.split-at.ensures.back ∙ back_is is_blank c.unblanked-text.result.now c.ink.result c.ink.ensures.value ∙ ap (onward is_blank) text in
+    let front = c.split_at.ensures.front ∙ front_is is_blank c.unblanked-text.result.now c.ink.result c.ink.ensures.value ∙ ap (before is_blank) text in
+    let back = c.split_at.ensures.back ∙ back_is is_blank c.unblanked-text.result.now c.ink.result c.ink.ensures.value ∙ ap (onward is_blank) text in
     record { word = front; rest = back; words = words_lead c.args.line.now ∙ sym (λ i. leading (front i) (word_list (back i))) }

@@ -5,12 +5,12 @@ use Rattle.text.proofs.word.unblanked.Goals as goal
 pub loop-rest-preserved : goal.loop-rest-preserved
 loop-rest-preserved c =
     let h : 1 ≤ length c.loop-rest.rest.now = search rules in
-    skip_more c.loop-rest.rest.now h (sym c.if-not-is-blank.ensures) ∙ c.loop-rest.invariant
+    skip_more c.loop-rest.rest.now h (sym c.if-not-is_blank.ensures) ∙ c.loop-rest.invariant
 
-pub returns-then-not-is-blank : goal.returns-then-not-is-blank
-returns-then-not-is-blank c =
+pub returns-then-not-is_blank : goal.returns-then-not-is_blank
+returns-then-not-is_blank c =
     let h : 1 ≤ length c.loop-rest.rest.now = search rules in
-    skip_done c.loop-rest.rest.now h (sym c.if-not-is-blank.ensures) ∙ c.loop-rest.invariant
+    skip_done c.loop-rest.rest.now h (sym c.if-not-is_blank.ensures) ∙ c.loop-rest.invariant
 
 pub returns : goal.returns
 returns c =

@@ -11,11 +11,11 @@ returns g c =
     let m = g.M.Encode.sent c.args.message.now in
     let size = c.size-size.ensures in
     let long = size ∙ sym (encoded_size m) in
-    let roomy : has_room b (size_of m) ≡ true = ap (has_room b) (sym size) ∙ sym c.if-not-has-room.ensures in
-    let fits : fit m ≡ true = sym c.if-not-is-fit.ensures in
-    let wrote = c.write-at.ensures in
+    let roomy : has_room b (size_of m) ≡ true = ap (has_room b) (sym size) ∙ sym c.if-not-has_room.ensures in
+    let fits : fit m ≡ true = sym c.if-not-is_fit.ensures in
+    let wrote = c.write_at.ensures in
     record {
       answer = taken b m roomy fits;
-      after = extends b c.write-at.new.buffer c.write-header.new.buffer m c.size-size.result c.length-in-length.result c.byte-at-count.result c.write-at.result long c.length-in-length.ensures c.byte-at-count.ensures roomy fits wrote.answer wrote.after c.write-header.ensures;
+      after = extends b c.write_at.new.buffer c.write_header.new.buffer m c.size-size.result c.length_in-length.result c.byte_at-count.result c.write_at.result long c.length_in-length.ensures c.byte_at-count.ensures roomy fits wrote.answer wrote.after c.write_header.ensures;
       widths = λ _. wrote.widths;
     }

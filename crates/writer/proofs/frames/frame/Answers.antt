@@ -5,5 +5,5 @@ use Rattle.writer.proofs.frames.frame.Goals as goal
 
 pub returns-then-length-buffer : goal.returns-then-length-buffer
 returns-then-length-buffer c =
-    let says = c.length-in-length.ensures in
+    let says = c.length_in-length.ensures in
     sym (take_all (length_in c.args.buffer.now) c.args.buffer.now (omega arith))

@@ -11,4 +11,4 @@ returns-in-err-word c = stops word_in _ _ c.from-residual.result c.in-err-word.f
 
 pub returns : goal.returns
 unfolding condition_in
-returns c = fits condition_of Condition _ c.in-ok-word.word c.condition-of.result c.ok-or.result c.in-ok-word.ensures c.condition-of.ensures c.ok-or.ensures.value
+returns c = fits condition_of Condition _ c.in-ok-word.word c.condition_of.result c.ok_or.result c.in-ok-word.ensures c.condition_of.ensures c.ok_or.ensures.value

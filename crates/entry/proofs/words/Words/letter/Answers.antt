@@ -11,4 +11,4 @@ returns-in-err-word c = stops word_in _ _ c.from-residual.result c.in-err-word.f
 
 pub returns : goal.returns
 unfolding letter_in
-returns c = fits letter_of Letter _ c.in-ok-word.word c.letter-of.result c.ok-or.result c.in-ok-word.ensures c.letter-of.ensures c.ok-or.ensures.value
+returns c = fits letter_of Letter _ c.in-ok-word.word c.letter_of.result c.ok_or.result c.in-ok-word.ensures c.letter_of.ensures c.ok_or.ensures.value

@@ -11,4 +11,4 @@ returns-in-err-word c = stops word_in _ _ c.from-residual.result c.in-err-word.f
 
 pub returns : goal.returns
 unfolding number_in
-returns c = fits number_of Number _ c.in-ok-word.word c.number-of.result c.ok-or.result c.in-ok-word.ensures c.number-of.ensures c.ok-or.ensures.value
+returns c = fits number_of Number _ c.in-ok-word.word c.number_of.result c.ok_or.result c.in-ok-word.ensures c.number_of.ensures c.ok_or.ensures.value

@@ -11,4 +11,4 @@ returns-in-err-word c = stops word_in _ _ c.from-residual.result c.in-err-word.f
 
 pub returns : goal.returns
 unfolding price_in
-returns c = fits dollars_of Price _ c.in-ok-word.word c.dollars.result c.ok-or.result c.in-ok-word.ensures c.dollars.ensures c.ok-or.ensures.value
+returns c = fits dollars_of Price _ c.in-ok-word.word c.dollars.result c.ok_or.result c.in-ok-word.ensures c.dollars.ensures c.ok_or.ensures.value

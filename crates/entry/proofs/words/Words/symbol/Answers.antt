@@ -11,4 +11,4 @@ returns-in-err-word c = stops word_in _ _ c.from-residual.result c.in-err-word.f
 
 pub returns : goal.returns
 unfolding symbol_in
-returns c = fits padded_of Symbol _ c.in-ok-word.word c.padded.result c.ok-or.result c.in-ok-word.ensures c.padded.ensures c.ok-or.ensures.value
+returns c = fits padded_of Symbol _ c.in-ok-word.word c.padded.result c.ok_or.result c.in-ok-word.ensures c.padded.ensures c.ok_or.ensures.value

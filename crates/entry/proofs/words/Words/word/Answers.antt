@@ -4,12 +4,12 @@ use Rattle.entry.specs.Fields.{word_in, first_of}
 use Rattle.entry.proofs.Taking.{led, unled}
 use Rattle.entry.proofs.words.Words.word.Goals as goal
 
-pub returns-then-is-empty : goal.returns-then-is-empty
+pub returns-then-is_empty : goal.returns-then-is_empty
 unfolding word_in
-returns-then-is-empty c =
-    sym (ap (first_of c.args.self.now.verb.now) (unled c.next-word.result.0.now (word_list c.args.self.now.rest.now) (word_list c.next-word.result.1.now) c.next-word.ensures.words c.if-is-empty.ensures))
+returns-then-is_empty c =
+    sym (ap (first_of c.args.self.now.verb.now) (unled c.next_word.result.0.now (word_list c.args.self.now.rest.now) (word_list c.next_word.result.1.now) c.next_word.ensures.words c.if-is_empty.ensures))
 
 pub returns : goal.returns
 unfolding word_in
 returns c =
-    sym (ap (first_of c.args.self.now.verb.now) (led c.next-word.result.0.now (word_list c.args.self.now.rest.now) (word_list c.next-word.result.1.now) c.next-word.ensures.words c.if-is-empty.ensures))
+    sym (ap (first_of c.args.self.now.verb.now) (led c.next_word.result.0.now (word_list c.args.self.now.rest.now) (word_list c.next_word.result.1.now) c.next_word.ensures.words c.if-is_empty.ensures))

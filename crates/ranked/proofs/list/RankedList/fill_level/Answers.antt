@@ -11,8 +11,8 @@ returns g c =
     let at = c.args.at in
     let old = entries c.args.self.now in
     record {
-      after = c.fill-at.ensures.after;
-      order = ap (in_rank b) c.fill-at.ensures.after ∙ filled_in_rank b g.T.Fill.fill g.met.T.Fill.keeps at (take (length (level_at b at old)) c.args.shares.now) old;
-      count = c.fill-at.ensures.count;
-      room = c.fill-at.ensures.room;
+      after = c.fill_at.ensures.after;
+      order = ap (in_rank b) c.fill_at.ensures.after ∙ filled_in_rank b g.T.Fill.fill g.met.T.Fill.keeps at (take (length (level_at b at old)) c.args.shares.now) old;
+      count = c.fill_at.ensures.count;
+      room = c.fill_at.ensures.room;
     }

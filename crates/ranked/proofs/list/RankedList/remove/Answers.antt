@@ -11,12 +11,12 @@ returns g c =
     let b = g.T.Rank.better in
     let at = c.args.at in
     let l = c.args.self.now in
-    let new = c.take-away.new.self in
-    let e : entries new ≡ remove (entries l) at = c.take-away.ensures.after ∙ removed_or_not l at in
+    let new = c.take_away.new.self in
+    let e : entries new ≡ remove (entries l) at = c.take_away.ensures.after ∙ removed_or_not l at in
     record {
-      answer = c.take-away.ensures.answer;
+      answer = c.take_away.ensures.answer;
       after = e;
       order = λ h. ap (in_rank b) e ∙ removed_in_rank b (entries l) at h;
-      count = c.take-away.ensures.count;
-      room = c.take-away.ensures.room;
+      count = c.take_away.ensures.count;
+      room = c.take_away.ensures.room;
     }

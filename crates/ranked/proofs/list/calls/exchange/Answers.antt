@@ -10,12 +10,12 @@ returns-then-at-n g c =
     let e = nothing_there g.T.Rank.better xs c.args.at c.args.x (omega (arith, length-take-le c.args.n c.args.s.now c.requires)) in
     record { was = sym e; after = sym (left_alone g.T.Rank.better xs c.args.at c.args.x e) }
 
-pub returns-then-not-are-level : goal.returns-then-not-are-level
-returns-then-not-are-level g c =
+pub returns-then-not-are_level : goal.returns-then-not-are_level
+returns-then-not-are_level g c =
     let xs = take c.args.n c.args.s.now in
     let y = c.index-s-at.result in
     let there = read_front c.args.s.now c.args.n c.args.at y c.requires c.if-at-n.false c.index-s-at.is in
-    let e = unlevel_there g.T.Rank.better xs c.args.at c.args.x y there (sym c.if-not-are-level.ensures) in
+    let e = unlevel_there g.T.Rank.better xs c.args.at c.args.x y there (sym c.if-not-are_level.ensures) in
     record { was = sym e; after = sym (left_alone g.T.Rank.better xs c.args.at c.args.x e) }
 
 pub returns : goal.returns
@@ -23,7 +23,7 @@ returns g c =
     let xs = take c.args.n c.args.s.now in
     let y = c.index-s-at.result in
     let there = read_front c.args.s.now c.args.n c.args.at y c.requires c.if-at-n.false c.index-s-at.is in
-    let e = level_there g.T.Rank.better xs c.args.at c.args.x y there (sym c.if-not-are-level.ensures) in
+    let e = level_there g.T.Rank.better xs c.args.at c.args.x y there (sym c.if-not-are_level.ensures) in
     record {
       was = sym e;
       after = take-set-lt c.args.n c.args.s.now c.args.at c.args.x c.if-at-n.false ∙ sym (taken_over g.T.Rank.better xs c.args.at c.args.x y e);

@@ -11,9 +11,9 @@ returns-then-n-whole c = record {
   unchanged = refl;
 }
 
-pub rounded-down-requires : goal.rounded-down-requires
-rounded-down-requires c =
-    let f = fit c.args.claims.now (length c.args.shares.now) (sym c.if-not-fit-to-share.ensures) in
+pub rounded_down-requires : goal.rounded_down-requires
+rounded_down-requires c =
+    let f = fit c.args.claims.now (length c.args.shares.now) (sym c.if-not-fit_to_share.ensures) in
     (f.few, (omega arith, omega arith))
 
 pub overflow-sub-spare : goal.overflow-sub-spare
@@ -21,7 +21,7 @@ overflow-sub-spare c =
     let g = given_low c.args.n c.claimed-whole.result (sizes c.args.claims.now) (sym c.claimed-whole.ensures) (omega arith) in
     omega arith
 
-pub round-in-turn-requires : goal.round-in-turn-requires
-round-in-turn-requires c =
-    let f = fit c.args.claims.now (length c.args.shares.now) (sym c.if-not-fit-to-share.ensures) in
+pub round_in_turn-requires : goal.round_in_turn-requires
+round_in_turn-requires c =
+    let f = fit c.args.claims.now (length c.args.shares.now) (sym c.if-not-fit_to_share.ensures) in
     (f.placed, (omega arith, omega arith))

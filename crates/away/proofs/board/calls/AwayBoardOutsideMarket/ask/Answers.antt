@@ -7,6 +7,6 @@ pub returns : goal.returns
 returns c =
     let b = c.args.self.now in
     record {
-      answer = firsts_are_best (bids_of b) (offers_of b) c.best-price.result c.best-price-2.result b.sound c.best-price.ensures c.best-price-2.ensures;
+      answer = firsts_are_best (bids_of b) (offers_of b) c.best_price.result c.best_price-2.result b.sound c.best_price.ensures c.best_price-2.ensures;
       unchanged = refl;
     }
