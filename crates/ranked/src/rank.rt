@@ -34,5 +34,5 @@ pub trait Fill: Rank {
         Self: Sized,
         ensures { result ≡ fill self.now n };
 
-    ghost keeps: { (x y : Self) (n : ℕ) → (Self.Rank.better (fill x n) y ≡ Self.Rank.better x y) × (Self.Rank.better y (fill x n) ≡ Self.Rank.better y x) };
+    ghost keeps: { (x y : Self) (n : ℕ) → (Self.better (fill x n) y ≡ Self.better x y) × (Self.better y (fill x n) ≡ Self.better y x) };
 }

@@ -88,7 +88,7 @@ impl<'a> Reader<'a> {
         ensures answer { answered result ≡ first (ahead self.old) }
         ensures after { self.new ≡ moved self.old }
         ensures rest { ahead self.new ≡ later (ahead self.old) }
-        ensures lent { IfOk result (λ o. IfSome o (λ m. LentAt self.old.frame.ptr.0 (self.old.place + self.old.frame.ptr.1) m)) }
+        ensures lent { IfOk result (λ o. IfSome o (λ m. LentAt self.old.frame.ref_ptr.0 (self.old.place + self.old.frame.ref_ptr.1) m)) }
     {
         if let Some(fault) = self.fault {
             return Err(fault);

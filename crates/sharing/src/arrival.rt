@@ -2,7 +2,7 @@
 ghost use Rattle.std.specs.Prelude.{◌≡◌, length};
 ghost use Rattle.sharing.specs.Asking.{sizes};
 ghost use Rattle.sharing.specs.Shares.{arrival};
-ghost use Rattle.sharing.specs.Laws.{arrival-shared};
+ghost use Rattle.sharing.specs.Laws.{arrival_shared};
 
 use crate::claim::{Claim, fit_to_share};
 use crate::refusal::Refusal;
@@ -27,7 +27,7 @@ fn fill_in_turn(n: u64, claims: &[Claim], shares: &mut [u32])
 impl SharingRule for Arrival {
     ghost means = { λ _ n claims. arrival n (sizes claims) };
 
-    ghost fair = { λ _ n claims. arrival-shared n (sizes claims) };
+    ghost fair = { λ _ n claims. arrival_shared n (sizes claims) };
 
     fn share(&self, n: u64, claims: &[Claim], shares: &mut [u32]) -> Result<(), Refusal> {
         if !fit_to_share(claims, shares.len()) {

@@ -2,7 +2,7 @@
 ghost use Rattle.std.specs.Prelude.{◌≡◌, ◌<◌, ◌≤◌, length};
 ghost use Rattle.sharing.specs.Asking.{sizes};
 ghost use Rattle.sharing.specs.Shares.{sum, floors, extra, rounded, pro_rata};
-ghost use Rattle.sharing.specs.Laws.{pro-rata-shared};
+ghost use Rattle.sharing.specs.Laws.{pro_rata_shared};
 
 use crate::arrival::Arrival;
 use crate::claim::{Claim, fit_to_share};
@@ -61,7 +61,7 @@ fn round_in_turn(n: u64, whole: u64, spare: u64, claims: &[Claim], shares: &mut 
 impl SharingRule for ProRata {
     ghost means = { λ _ n claims. pro_rata n (sizes claims) };
 
-    ghost fair = { λ _ n claims. pro-rata-shared n (sizes claims) };
+    ghost fair = { λ _ n claims. pro_rata_shared n (sizes claims) };
 
     fn share(&self, n: u64, claims: &[Claim], shares: &mut [u32]) -> Result<(), Refusal> {
         if !fit_to_share(claims, shares.len()) {

@@ -4,7 +4,7 @@ ghost use Rattle.std.specs.Result.{result_err};
 ghost use Rattle.ranked.specs.View.{entries};
 ghost use Rattle.away.specs.Away.{better_bid, better_offer};
 ghost use Rattle.away.specs.Board.{without, posted, clear_refusal, best_of};
-ghost use Rattle.away.specs.Fits.{fit-board};
+ghost use Rattle.away.specs.Fits.{fit_board};
 ghost use Rattle.market.specs.Refusals.{unless};
 ghost use Rattle.away.specs.View.{bids_of, offers_of, bid_room, offer_room, bid_refusal, offer_refusal, bid_price, offer_price};
 
@@ -140,7 +140,7 @@ impl<'a> AwayBoard<'a> {
 impl<'a> OutsideMarket for AwayBoard<'a> {
     ghost means = { λ b. best_of (entries b.bids) (entries b.offers) };
 
-    ghost fit = { λ b. fit-board (entries b.bids) (entries b.offers) b.sound };
+    ghost fit = { λ b. fit_board (entries b.bids) (entries b.offers) b.sound };
 
     fn ask(&self) -> (Option<u64>, Option<u64>) {
         (best_price(&self.bids), best_price(&self.offers))

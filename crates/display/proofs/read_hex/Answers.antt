@@ -15,6 +15,6 @@ pub loop-word-preserved : goal.loop-word-preserved
 loop-word-preserved c =
     let word = c.next_word.result.0.now in
     let some : 0 < length word = omega (arith, eqb-false (length word) 0 (sym c.if-is_empty.ensures)) in
-    let pushed = c.in-ok-push_word.ensures in
+    let pushed = c.in_ok-push_word.ensures in
     let inv = c.loop-word.invariant in
     goes_on (word_list c.loop-word.rest.now) (word_list c.next_word.result.1.now) word (vec_items c.loop-word.frame) (vec_items c.push_word.new.out) _ _ c.next_word.ensures.words some (sym pushed.answer ∙ c.if-not-branch.false) pushed.items inv.0 inv.1

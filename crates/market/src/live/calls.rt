@@ -1,7 +1,7 @@
 // What a live pair is asked and told.
 ghost use Rattle.std.specs.Prelude.{◌≡◌, None};
 ghost use Rattle.std.specs.Result.{result_err};
-ghost use Rattle.market.specs.Fits.{fit-side};
+ghost use Rattle.market.specs.Fits.{fit_side};
 ghost use Rattle.market.specs.Live.{sides, set_refusal};
 ghost use Rattle.market.specs.Refusals.{unless};
 
@@ -46,7 +46,7 @@ impl LivePair {
 impl OutsideMarket for LivePair {
     ghost means = { sides };
 
-    ghost fit = { λ m. (fit-side m.bid m.bid_fit, fit-side m.offer m.offer_fit) };
+    ghost fit = { λ m. (fit_side m.bid m.bid_fit, fit_side m.offer m.offer_fit) };
 
     fn ask(&self) -> (Option<u64>, Option<u64>) {
         (self.bid, self.offer)

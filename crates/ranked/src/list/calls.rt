@@ -12,7 +12,7 @@ use crate::refusal::Refusal;
 fn spot<T: Rank>(s: &[T], n: usize, x: &T) -> usize
     requires { n ≤ length s.now }
     ensures within { result ≤ n }
-    ensures there { insert (take n s.now) result x.now ≡ entered better x.now (take n s.now) }
+    ensures there { insert (take n s.now) result x.now ≡ entered T.better x.now (take n s.now) }
 {
     for i in 0..n {
         if x.beats(&s[i]) {
@@ -33,7 +33,7 @@ fn put_in<T: Copy>(s: &mut [T], n: usize, at: usize, x: T)
 // Puts x behind all that are better or level.
 fn enter<T: Rank + Copy>(s: &mut [T], n: usize, x: T)
     requires { n < length s.old }
-    ensures { take (n + 1) s.new ≡ entered better x (take n s.old) }
+    ensures { take (n + 1) s.new ≡ entered T.better x (take n s.old) }
 {
     let at = spot(s, n, &x);
     put_in(s, n, at, x);
@@ -51,7 +51,7 @@ fn close_up<T: Copy>(s: &mut [T], n: usize, at: usize) -> T
 }
 
 fn are_level<T: Rank>(x: &T, y: &T) -> bool
-    ensures { result ≡ level better x.now y.now }
+    ensures { result ≡ level T.better x.now y.now }
 {
     !x.beats(y) && !y.beats(x)
 }
@@ -59,8 +59,8 @@ fn are_level<T: Rank>(x: &T, y: &T) -> bool
 // Puts x in the place of an entry that is level with it, and answers that one; else none, and nothing is changed.
 fn exchange<T: Rank + Copy>(s: &mut [T], n: usize, at: usize, x: T) -> Option<T>
     requires { n ≤ length s.old }
-    ensures was { result ≡ replaceable better (take n s.old) at x }
-    ensures after { take n s.new ≡ replaced better (take n s.old) at x }
+    ensures was { result ≡ replaceable T.better (take n s.old) at x }
+    ensures after { take n s.new ≡ replaced T.better (take n s.old) at x }
 {
     if at >= n {
         return None;
@@ -133,7 +133,7 @@ impl<'a, T: Rank + Copy> RankedList<'a, T> {
 
     fn admit(&mut self, x: T) -> Result<(), Refusal>
         ensures answer { result ≡ (if free self.old then Ok tt else Err Refusal.NoFreePlace) }
-        ensures after { entries self.new ≡ (if free self.old then entered better x (entries self.old) else entries self.old) }
+        ensures after { entries self.new ≡ (if free self.old then entered T.better x (entries self.old) else entries self.old) }
         ensures count { count self.new ≡ (if free self.old then count self.old + 1 else count self.old) }
         ensures room { room self.new ≡ room self.old }
     {
@@ -149,9 +149,9 @@ impl<'a, T: Rank + Copy> RankedList<'a, T> {
     // Puts x behind all that are better or level; refused, and nothing is changed, where no place is free.
     pub fn insert(&mut self, x: T) -> Result<(), Refusal>
         ensures answer { result ≡ (if free self.old then Ok tt else Err Refusal.NoFreePlace) }
-        ensures after { entries self.new ≡ (if free self.old then entered better x (entries self.old) else entries self.old) }
-        ensures behind_all_that_are_better_or_level { in_rank better (entries self.old) ≡ true → free self.old ≡ true → entries self.new ≡ in_its_place better x (entries self.old) }
-        ensures order { in_rank better (entries self.old) ≡ true → in_rank better (entries self.new) ≡ true }
+        ensures after { entries self.new ≡ (if free self.old then entered T.better x (entries self.old) else entries self.old) }
+        ensures behind_all_that_are_better_or_level { in_rank T.better (entries self.old) ≡ true → free self.old ≡ true → entries self.new ≡ in_its_place T.better x (entries self.old) }
+        ensures order { in_rank T.better (entries self.old) ≡ true → in_rank T.better (entries self.new) ≡ true }
         ensures count { count self.new ≡ (if free self.old then count self.old + 1 else count self.old) }
         ensures room { room self.new ≡ room self.old }
     {
@@ -177,7 +177,7 @@ impl<'a, T: Rank + Copy> RankedList<'a, T> {
     pub fn remove(&mut self, at: usize) -> Option<T>
         ensures answer { result ≡ slice_get (entries self.old) at }
         ensures after { entries self.new ≡ remove (entries self.old) at }
-        ensures order { in_rank better (entries self.old) ≡ true → in_rank better (entries self.new) ≡ true }
+        ensures order { in_rank T.better (entries self.old) ≡ true → in_rank T.better (entries self.new) ≡ true }
         ensures count { count self.new ≡ (if nat_lt at (count self.old) then count self.old - 1 else count self.old) }
         ensures room { room self.new ≡ room self.old }
     {
@@ -186,9 +186,9 @@ impl<'a, T: Rank + Copy> RankedList<'a, T> {
 
     // Puts x in the place of an entry that is level with it and answers that one; none, and nothing is changed, where no such entry is there.
     pub fn replace(&mut self, at: usize, x: T) -> Option<T>
-        ensures answer { result ≡ replaceable better (entries self.old) at x }
-        ensures after { entries self.new ≡ replaced better (entries self.old) at x }
-        ensures order { in_rank better (entries self.old) ≡ true → in_rank better (entries self.new) ≡ true }
+        ensures answer { result ≡ replaceable T.better (entries self.old) at x }
+        ensures after { entries self.new ≡ replaced T.better (entries self.old) at x }
+        ensures order { in_rank T.better (entries self.old) ≡ true → in_rank T.better (entries self.new) ≡ true }
         ensures count { count self.new ≡ count self.old }
         ensures room { room self.new ≡ room self.old }
     {

@@ -13,7 +13,7 @@ use crate::rank::{Fill, Rank};
 fn level_end<T: Rank + Copy>(s: &[T], at: usize) -> usize
     requires { at < length s.now }
     ensures within { (at < result) × (result ≤ length s.now) }
-    ensures there { between at result s.now ≡ level_at better at s.now }
+    ensures there { between at result s.now ≡ level_at T.better at s.now }
 {
     let best = s[at];
     for i in at + 1..s.len() {
@@ -26,7 +26,7 @@ fn level_end<T: Rank + Copy>(s: &[T], at: usize) -> usize
 
 // The level from a place on.
 fn level_of<T: Rank + Copy>(s: &[T], at: usize) -> &[T]
-    ensures { result.now ≡ level_at better at s.now }
+    ensures { result.now ≡ level_at T.better at s.now }
 {
     if at >= s.len() {
         return &s[0..0];
@@ -38,7 +38,7 @@ fn level_of<T: Rank + Copy>(s: &[T], at: usize) -> &[T]
 // The contracts of some entries.
 fn sum<T: Fill>(s: &[T]) -> u64
     requires { length s.now ≤ 512 }
-    ensures { result ≡ total size s.now }
+    ensures { result ≡ total T.size s.now }
 {
     let mut contracts: u64 = 0;
     for x in s {
@@ -50,7 +50,7 @@ fn sum<T: Fill>(s: &[T]) -> u64
 // Fills the entries from `at` on among the first n, one share each.
 fn fill_from<T: Fill + Copy>(s: &mut [T], n: usize, at: usize, shares: &[u32])
     requires { (n ≤ length s.old) × (length shares.now ≤ n - at) }
-    ensures { take n s.new ≡ filled_from fill at shares.now (take n s.old) }
+    ensures { take n s.new ≡ filled_from T.fill at shares.now (take n s.old) }
 {
     for i in 0..shares.len() {
         let x = s[at + i];
@@ -61,7 +61,7 @@ fn fill_from<T: Fill + Copy>(s: &mut [T], n: usize, at: usize, shares: &[u32])
 // Fills the level from `at` on among the first n, one share each, as far as both go.
 fn fill_in<T: Fill + Copy>(s: &mut [T], n: usize, at: usize, shares: &[u32])
     requires { n ≤ length s.old }
-    ensures { take n s.new ≡ filled_level T.Rank.better fill at shares.now (take n s.old) }
+    ensures { take n s.new ≡ filled_level T.better T.fill at shares.now (take n s.old) }
 {
     let size = level_of(&s[0..n], at).len();
     let filled = size.min(shares.len());
@@ -71,8 +71,8 @@ fn fill_in<T: Fill + Copy>(s: &mut [T], n: usize, at: usize, shares: &[u32])
 impl<'a, T: Rank + Copy> RankedList<'a, T> {
     // The level from a place on: the entry there and what is level with it; empty past the last.
     pub fn level(&self, at: usize) -> &[T]
-        ensures value { result.now ≡ level_at better at (entries self.now) }
-        ensures all_that_is_level { in_rank better (entries self.now) ≡ true → result.now ≡ level_with better at (entries self.now) }
+        ensures value { result.now ≡ level_at T.better at (entries self.now) }
+        ensures all_that_is_level { in_rank T.better (entries self.now) ≡ true → result.now ≡ level_with T.better at (entries self.now) }
     {
         level_of(self.entries(), at)
     }
@@ -81,13 +81,13 @@ impl<'a, T: Rank + Copy> RankedList<'a, T> {
 impl<'a, T: Fill + Copy> RankedList<'a, T> {
     // The contracts of the level from a place on.
     pub fn level_total(&self, at: usize) -> u64
-        ensures { result ≡ total size (level_at T.Rank.better at (entries self.now)) }
+        ensures { result ≡ total T.size (level_at T.better at (entries self.now)) }
     {
         sum(self.level(at))
     }
 
     fn fill_at(&mut self, at: usize, shares: &[u32])
-        ensures after { entries self.new ≡ filled_level T.Rank.better fill at shares.now (entries self.old) }
+        ensures after { entries self.new ≡ filled_level T.better T.fill at shares.now (entries self.old) }
         ensures count { count self.new ≡ count self.old }
         ensures room { room self.new ≡ room self.old }
     {
@@ -97,8 +97,8 @@ impl<'a, T: Fill + Copy> RankedList<'a, T> {
 
     // Fills the level from a place on, one share each in its order, as far as both go.
     pub fn fill_level(&mut self, at: usize, shares: &[u32])
-        ensures after { entries self.new ≡ filled_level T.Rank.better fill at shares.now (entries self.old) }
-        ensures order { in_rank T.Rank.better (entries self.new) ≡ in_rank T.Rank.better (entries self.old) }
+        ensures after { entries self.new ≡ filled_level T.better T.fill at shares.now (entries self.old) }
+        ensures order { in_rank T.better (entries self.new) ≡ in_rank T.better (entries self.old) }
         ensures count { count self.new ≡ count self.old }
         ensures room { room self.new ≡ room self.old }
     {

@@ -5,58 +5,58 @@ use Rattle.entry.specs.Shown.{line_of}
 use Rattle.entry.proofs.Taking.{stops, goes}
 use Rattle.entry.proofs.board.summary.Goals as goal
 
-pub returns-in-err-symbol : goal.returns-in-err-symbol
+pub returns-in_err-symbol : goal.returns-in_err-symbol
 unfolding summary_in
-returns-in-err-symbol c =
-    stops symbol_in _ _ c.from-residual.result c.in-err-symbol.field-0.0 (line_of c.symbol.new.self) c.from-residual.ensures.1 c.in-err-symbol.ensures
+returns-in_err-symbol c =
+    stops symbol_in _ _ c.from_residual.result c.in_err-symbol.field-0.0 (line_of c.symbol.new.self) c.from_residual.ensures.1 c.in_err-symbol.ensures
 
-pub returns-in-err-letter : goal.returns-in-err-letter
+pub returns-in_err-letter : goal.returns-in_err-letter
 unfolding summary_in
-returns-in-err-letter c =
-    goes symbol_in _ _ c.in-ok-symbol.ensures (
-    stops letter_in _ _ c.from-residual-in-err-letter.result c.in-err-letter.field-0.0 (line_of c.letter.new.self) c.from-residual-in-err-letter.ensures.1 c.in-err-letter.ensures)
+returns-in_err-letter c =
+    goes symbol_in _ _ c.in_ok-symbol.ensures (
+    stops letter_in _ _ c.from_residual-in_err-letter.result c.in_err-letter.field-0.0 (line_of c.letter.new.self) c.from_residual-in_err-letter.ensures.1 c.in_err-letter.ensures)
 
-pub returns-in-err-price : goal.returns-in-err-price
+pub returns-in_err-price : goal.returns-in_err-price
 unfolding summary_in
-returns-in-err-price c =
-    goes symbol_in _ _ c.in-ok-symbol.ensures (
-    goes letter_in _ _ c.in-ok-letter.ensures (
-    stops price_in _ _ c.from-residual-in-err-price.result c.in-err-price.field-0.0 (line_of c.price.new.self) c.from-residual-in-err-price.ensures.1 c.in-err-price.ensures))
+returns-in_err-price c =
+    goes symbol_in _ _ c.in_ok-symbol.ensures (
+    goes letter_in _ _ c.in_ok-letter.ensures (
+    stops price_in _ _ c.from_residual-in_err-price.result c.in_err-price.field-0.0 (line_of c.price.new.self) c.from_residual-in_err-price.ensures.1 c.in_err-price.ensures))
 
-pub returns-in-err-number : goal.returns-in-err-number
+pub returns-in_err-number : goal.returns-in_err-number
 unfolding summary_in
-returns-in-err-number c =
-    goes symbol_in _ _ c.in-ok-symbol.ensures (
-    goes letter_in _ _ c.in-ok-letter.ensures (
-    goes price_in _ _ c.in-ok-price.ensures (
-    stops number_in _ _ c.from-residual-in-err-number.result c.in-err-number.field-0.0 (line_of c.number.new.self) c.from-residual-in-err-number.ensures.1 c.in-err-number.ensures)))
+returns-in_err-number c =
+    goes symbol_in _ _ c.in_ok-symbol.ensures (
+    goes letter_in _ _ c.in_ok-letter.ensures (
+    goes price_in _ _ c.in_ok-price.ensures (
+    stops number_in _ _ c.from_residual-in_err-number.result c.in_err-number.field-0.0 (line_of c.number.new.self) c.from_residual-in_err-number.ensures.1 c.in_err-number.ensures)))
 
-pub returns-in-err-number-2 : goal.returns-in-err-number-2
+pub returns-in_err-number-2 : goal.returns-in_err-number-2
 unfolding summary_in
-returns-in-err-number-2 c =
-    goes symbol_in _ _ c.in-ok-symbol.ensures (
-    goes letter_in _ _ c.in-ok-letter.ensures (
-    goes price_in _ _ c.in-ok-price.ensures (
-    goes number_in _ _ c.in-ok-number.ensures (
-    stops number_in _ _ c.from-residual-in-err-number-2.result c.in-err-number-2.field-0.0 (line_of c.number-2.new.self) c.from-residual-in-err-number-2.ensures.1 c.in-err-number-2.ensures))))
+returns-in_err-number-2 c =
+    goes symbol_in _ _ c.in_ok-symbol.ensures (
+    goes letter_in _ _ c.in_ok-letter.ensures (
+    goes price_in _ _ c.in_ok-price.ensures (
+    goes number_in _ _ c.in_ok-number.ensures (
+    stops number_in _ _ c.from_residual-in_err-number-2.result c.in_err-number-2.field-0.0 (line_of c.number-2.new.self) c.from_residual-in_err-number-2.ensures.1 c.in_err-number-2.ensures))))
 
-pub returns-in-err-end : goal.returns-in-err-end
+pub returns-in_err-end : goal.returns-in_err-end
 unfolding summary_in
-returns-in-err-end c =
-    goes symbol_in _ _ c.in-ok-symbol.ensures (
-    goes letter_in _ _ c.in-ok-letter.ensures (
-    goes price_in _ _ c.in-ok-price.ensures (
-    goes number_in _ _ c.in-ok-number.ensures (
-    goes number_in _ _ c.in-ok-number-2.ensures (
-    stops end_in _ _ c.from-residual-in-err-end.result c.in-err-end.field-0.0 (line_of c.number-2.new.self) c.from-residual-in-err-end.ensures.1 c.in-err-end.ensures)))))
+returns-in_err-end c =
+    goes symbol_in _ _ c.in_ok-symbol.ensures (
+    goes letter_in _ _ c.in_ok-letter.ensures (
+    goes price_in _ _ c.in_ok-price.ensures (
+    goes number_in _ _ c.in_ok-number.ensures (
+    goes number_in _ _ c.in_ok-number-2.ensures (
+    stops end_in _ _ c.from_residual-in_err-end.result c.in_err-end.field-0.0 (line_of c.number-2.new.self) c.from_residual-in_err-end.ensures.1 c.in_err-end.ensures)))))
 
 pub returns : goal.returns
 unfolding summary_in
 returns c =
-    goes symbol_in _ _ c.in-ok-symbol.ensures (
-    goes letter_in _ _ c.in-ok-letter.ensures (
-    goes price_in _ _ c.in-ok-price.ensures (
-    goes number_in _ _ c.in-ok-number.ensures (
-    goes number_in _ _ c.in-ok-number-2.ensures (
-    goes end_in _ _ c.in-ok-end.ensures (
+    goes symbol_in _ _ c.in_ok-symbol.ensures (
+    goes letter_in _ _ c.in_ok-letter.ensures (
+    goes price_in _ _ c.in_ok-price.ensures (
+    goes number_in _ _ c.in_ok-number.ensures (
+    goes number_in _ _ c.in_ok-number-2.ensures (
+    goes end_in _ _ c.in_ok-end.ensures (
     refl))))))

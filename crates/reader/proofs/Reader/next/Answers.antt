@@ -12,9 +12,9 @@ returns-in-Some-found c =
     let x = c.in-Some-found.found in
     let is = c.in-Some-found.is in
     let h = c.in-Ok.ensures in
-    let none = c.in-default.is in
+    let none = c.in_default.is in
     let next = subst (λ (o : Option Found). IfSome o (λ y. (0 < r.left) × (y.next ≡ r.place + get_or r.frame.now r.place 0))) is h.next in
-    let lent = subst (λ (o : Option Found). IfSome o (λ y. LentAt r.frame.ptr.0 (r.place + r.frame.ptr.1) y.message)) is h.lent in
+    let lent = subst (λ (o : Option Found). IfSome o (λ y. LentAt r.frame.ref_ptr.0 (r.place + r.frame.ref_ptr.1) y.message)) is h.lent in
     let said = sym (ap (λ (o : Option Found). answered_found (Ok o)) is) ∙ h.answer ∙ sym (ap first (unfaulted r none)) in
     let on = moved_on r (notice_of x.message) x.next none said next.1 in
     record { answer = said; after = on; rest = ap ahead on ∙ moved_says r; lent = lent }

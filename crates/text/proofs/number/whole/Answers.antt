@@ -8,15 +8,15 @@ pub returns-then-is_empty : goal.returns-then-is_empty
 unfolding whole_of
 returns-then-is_empty c = search rules
 
-pub returns-in-err-n : goal.returns-in-err-n
-returns-in-err-n c =
-    rw c.from-residual.ensures
-    (read_on_stops c.args.word.now c.loop-b.b-index c.loop-b.n c.loop-b-test.true (omega arith) c.loop-b.invariant.0 c.in-err-n.ensures)
+pub returns-in_err-n : goal.returns-in_err-n
+returns-in_err-n c =
+    rw c.from_residual.ensures
+    (read_on_stops c.args.word.now c.loop-b.b-index c.loop-b.n c.loop-b-test.true (omega arith) c.loop-b.invariant.0 c.in_err-n.ensures)
 
 pub loop-b-preserved : goal.loop-b-preserved
 loop-b-preserved c = (
-  read_on_goes c.args.word.now c.loop-b.b-index c.loop-b.n c.in-ok-n.n c.loop-b-test.true c.loop-b.invariant.0 c.in-ok-n.ensures,
-  appended_fits c.loop-b.n (get_or c.args.word.now c.loop-b.b-index 0) c.in-ok-n.n c.in-ok-n.ensures,
+  read_on_goes c.args.word.now c.loop-b.b-index c.loop-b.n c.in_ok-n.n c.loop-b-test.true c.loop-b.invariant.0 c.in_ok-n.ensures,
+  appended_fits c.loop-b.n (get_or c.args.word.now c.loop-b.b-index 0) c.in_ok-n.n c.in_ok-n.ensures,
 )
 
 pub returns : goal.returns

@@ -8,13 +8,13 @@ loop-rest-preserved c =
     let last : get_or c.loop-rest.rest.now (length c.loop-rest.rest.now - 1) 0 ≡ 32 = search rules in
     trim_more c.loop-rest.rest.now some last ∙ c.loop-rest.invariant
 
-pub returns-in-default : goal.returns-in-default
-returns-in-default c =
+pub returns-in_default : goal.returns-in_default
+returns-in_default c =
     let none : length c.loop-rest.rest.now < 1 = search rules in
     trim_empty c.loop-rest.rest.now none ∙ c.loop-rest.invariant
 
-pub returns-in-default·2 : goal.returns-in-default·2
-returns-in-default·2 c =
+pub returns-in_default-2 : goal.returns-in_default-2
+returns-in_default-2 c =
     let some : 0 < length c.loop-rest.rest.now = search rules in
     let last : get_or c.loop-rest.rest.now (length c.loop-rest.rest.now - 1) 0 ≡ 32 → ⊥ = search rules in
     trim_done c.loop-rest.rest.now some last ∙ c.loop-rest.invariant

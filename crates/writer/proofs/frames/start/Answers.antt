@@ -12,5 +12,5 @@ returns c =
       answer = did.answer;
       after = did.after;
       holds = starts b new why did.answer did.after;
-      all-that-fits-is-written = starts_all b new why did.answer did.after;
+      all_that_fits_is_written = starts_all b new why did.answer did.after;
     }

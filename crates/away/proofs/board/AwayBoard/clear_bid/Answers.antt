@@ -19,7 +19,7 @@ returns c =
       answer = search rules;
       bids = search rules;
       offers = refl;
-      only-this-exchange-moves = cleared_moves better_bid (λ x. x.exchange) (λ x. x.price) c.args.exchange (bids_of b) (entries c.clear.new.list) c.clear.ensures.after (bids_tidy (bids_of b) (offers_of b) b.sound);
-      bid-room = search rules;
-      offer-room = search rules;
+      only_this_exchange_moves = cleared_moves better_bid (λ x. x.exchange) (λ x. x.price) c.args.exchange (bids_of b) (entries c.clear.new.list) c.clear.ensures.after (bids_tidy (bids_of b) (offers_of b) b.sound);
+      bid_room = search rules;
+      offer_room = search rules;
     }

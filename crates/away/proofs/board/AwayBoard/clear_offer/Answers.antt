@@ -19,7 +19,7 @@ returns c =
       answer = search rules;
       offers = search rules;
       bids = refl;
-      only-this-exchange-moves = cleared_moves better_offer (λ x. x.exchange) (λ x. x.price) c.args.exchange (offers_of b) (entries c.clear.new.list) c.clear.ensures.after (offers_tidy (bids_of b) (offers_of b) b.sound);
-      bid-room = search rules;
-      offer-room = search rules;
+      only_this_exchange_moves = cleared_moves better_offer (λ x. x.exchange) (λ x. x.price) c.args.exchange (offers_of b) (entries c.clear.new.list) c.clear.ensures.after (offers_tidy (bids_of b) (offers_of b) b.sound);
+      bid_room = search rules;
+      offer_room = search rules;
     }

@@ -23,7 +23,7 @@ returns c =
       answer = search rules;
       bids = search rules;
       offers = refl;
-      only-this-exchange-moves = posted_moves better_bid (λ x. x.exchange) (λ x. x.price) (bid_place e b) e p (record { exchange = e; price = p }) (bids_of b) (entries c.post.new.list) refl refl c.post.ensures.after (bids_tidy (bids_of b) (offers_of b) b.sound);
-      bid-room = search rules;
-      offer-room = search rules;
+      only_this_exchange_moves = posted_moves better_bid (λ x. x.exchange) (λ x. x.price) (bid_place e b) e p (record { exchange = e; price = p }) (bids_of b) (entries c.post.new.list) refl refl c.post.ensures.after (bids_tidy (bids_of b) (offers_of b) b.sound);
+      bid_room = search rules;
+      offer_room = search rules;
     }

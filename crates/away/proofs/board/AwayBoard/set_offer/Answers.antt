@@ -23,7 +23,7 @@ returns c =
       answer = search rules;
       offers = search rules;
       bids = refl;
-      only-this-exchange-moves = posted_moves better_offer (λ x. x.exchange) (λ x. x.price) (offer_place e b) e p (record { exchange = e; price = p }) (offers_of b) (entries c.post.new.list) refl refl c.post.ensures.after (offers_tidy (bids_of b) (offers_of b) b.sound);
-      bid-room = search rules;
-      offer-room = search rules;
+      only_this_exchange_moves = posted_moves better_offer (λ x. x.exchange) (λ x. x.price) (offer_place e b) e p (record { exchange = e; price = p }) (offers_of b) (entries c.post.new.list) refl refl c.post.ensures.after (offers_tidy (bids_of b) (offers_of b) b.sound);
+      bid_room = search rules;
+      offer_room = search rules;
     }

@@ -4,4 +4,4 @@ use Rattle.board.proofs.message.UnknownLineDisplay.fmt.Goals as goal
 
 pub returns-clause-writes : goal.returns-clause-writes
 returns-clause-writes g c plain ok =
-    has_written_of_eq g.W.Write.write_str_gives c.args.f.now _ _ c.write.new.self (unknown_line_lem c.args.self.now.0.now c.byte_at-kind.result c.byte_at-kind.ensures) (c.write.ensures.shows plain ok)
+    has_written_of_eq g.W.Write.write_str_gives c.args.f.now _ _ c.write.new.self (unknown_line_lem c.args.self.now.0.now c.byte_at-kind.result c.byte_at-kind.ensures) (c.write.ensures.writes plain ok)

@@ -9,4 +9,4 @@ returns-then-is_ascii_graphic-clause-writes g c plain ok =
 
 pub returns-else-is_ascii_graphic-clause-writes : goal.returns-else-is_ascii_graphic-clause-writes
 returns-else-is_ascii_graphic-clause-writes g c plain ok =
-    has_written_of_eq g.W.Write.write_str_gives _ _ _ _ (hidden c.args.self.now.0 (sym c.if-is_ascii_graphic.ensures.value)) (c.write.ensures.shows plain ok)
+    has_written_of_eq g.W.Write.write_str_gives _ _ _ _ (hidden c.args.self.now.0 (sym c.if-is_ascii_graphic.ensures.value)) (c.write.ensures.writes plain ok)

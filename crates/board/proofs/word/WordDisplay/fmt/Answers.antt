@@ -14,7 +14,7 @@ loop-b-preserved g c plain =
     let bs = c.args.self.now.0.now in
     let i = c.loop-b.b-index in
     let x = c.loop-b.invariant plain in
-    let y = c.in-ok-write.ensures.shows x.plain (refl {a = true}) in
+    let y = c.in_ok-write.ensures.writes x.plain (refl {a = true}) in
     has_written_of_eq took c.args.f.now (word_text (take i bs) ++ letter_text (get_or bs i 0)) (word_text (take (i + 1) bs)) c.write.new.self (word_more bs i c.loop-b-test.true)
     (has_written_append took c.args.f.now (word_text (take i bs)) c.loop-b.f (letter_text (get_or bs i 0)) c.write.new.self x y)
 

@@ -15,7 +15,7 @@ returns g c =
     record {
       answer = c.admit.ensures.answer;
       after = after;
-      behind-all-that-are-better-or-level =
+      behind_all_that_are_better_or_level =
           λ h t. after ∙ cond-true (free l) (entered b x (entries l)) (entries l) t ∙ entered_splits b g.met.T.Rank.apart g.met.T.Rank.carries g.met.T.Rank.levels x (entries l) h;
       order = admitted_in_rank b g.met.T.Rank.apart g.met.T.Rank.carries x (free l) (entries l) (entries c.admit.new.self) after;
       count = c.admit.ensures.count;

@@ -11,5 +11,5 @@ returns g c =
     let e : c.level_of.result.now ≡ level_at b c.args.at xs = c.level_of.ensures ∙ ap (level_at b c.args.at) c.entries.ensures in
     record {
       value = e;
-      all-that-is-level = λ h. e ∙ level_whole b g.met.T.Rank.apart g.met.T.Rank.carries g.met.T.Rank.levels c.args.at xs h;
+      all_that_is_level = λ h. e ∙ level_whole b g.met.T.Rank.apart g.met.T.Rank.carries g.met.T.Rank.levels c.args.at xs h;
     }
