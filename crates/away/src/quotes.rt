@@ -39,7 +39,7 @@ fn is_exchange(letter: u8) -> bool
 
 // Where an exchange's price stands, or the length where there is none.
 fn place_in<T: Quote + Copy>(s: &[T], letter: u8) -> usize
-    ensures { result ≡ place_of exchange letter s.now }
+    ensures { result ≡ place_of T.exchange letter s.now }
 {
     for i in 0..s.len() {
         let x = s[i];
@@ -51,29 +51,29 @@ fn place_in<T: Quote + Copy>(s: &[T], letter: u8) -> usize
 }
 
 fn place_of<T: Quote + Copy>(list: &RankedList<'_, T>, letter: u8) -> usize
-    ensures { result ≡ place_of exchange letter (entries list.now) }
+    ensures { result ≡ place_of T.exchange letter (entries list.now) }
 {
     place_in(list.entries(), letter)
 }
 
 fn is_quoted<T: Quote + Copy>(list: &RankedList<'_, T>, letter: u8) -> bool
-    ensures { result ≡ quoted exchange letter (entries list.now) }
+    ensures { result ≡ quoted T.exchange letter (entries list.now) }
 {
     place_of(list, letter) < list.len()
 }
 
 // Whether there is a place for an exchange's price: its own, or a free one.
 fn has_place<T: Quote + Copy>(list: &RankedList<'_, T>, letter: u8) -> bool
-    ensures { result ≡ (quoted exchange letter (entries list.now) || free list.now) }
+    ensures { result ≡ (quoted T.exchange letter (entries list.now) || free list.now) }
 {
     is_quoted(list, letter) || list.len() < list.room()
 }
 
 // Takes an exchange's price out, where there is one.
 fn take_out<T: Quote + Copy>(list: &mut RankedList<'_, T>, letter: u8)
-    ensures after { entries list.new ≡ without exchange letter (entries list.old) }
-    ensures order { in_rank T.Rank.better (entries list.old) ≡ true → in_rank T.Rank.better (entries list.new) ≡ true }
-    ensures place { free list.new ≡ (quoted exchange letter (entries list.old) || free list.old) }
+    ensures after { entries list.new ≡ without T.exchange letter (entries list.old) }
+    ensures order { in_rank T.better (entries list.old) ≡ true → in_rank T.better (entries list.new) ≡ true }
+    ensures place { free list.new ≡ (quoted T.exchange letter (entries list.old) || free list.old) }
     ensures room { room list.new ≡ room list.old }
 {
     let at = place_of(list, letter);
@@ -82,8 +82,8 @@ fn take_out<T: Quote + Copy>(list: &mut RankedList<'_, T>, letter: u8)
 
 // Puts an exchange's price in the place of its former one, where there is a place.
 fn put<T: Quote + Copy>(list: &mut RankedList<'_, T>, letter: u8, x: T)
-    ensures after { entries list.new ≡ (if quoted exchange letter (entries list.old) || free list.old then posted T.Rank.better exchange letter x (entries list.old) else without exchange letter (entries list.old)) }
-    ensures order { in_rank T.Rank.better (entries list.old) ≡ true → in_rank T.Rank.better (entries list.new) ≡ true }
+    ensures after { entries list.new ≡ (if quoted T.exchange letter (entries list.old) || free list.old then posted T.better T.exchange letter x (entries list.old) else without T.exchange letter (entries list.old)) }
+    ensures order { in_rank T.better (entries list.old) ≡ true → in_rank T.better (entries list.new) ≡ true }
     ensures room { room list.new ≡ room list.old }
 {
     take_out(list, letter);
@@ -96,9 +96,9 @@ pub(crate) fn post<T: Quote + Copy>(
     letter: u8,
     amount: u64,
 ) -> Result<(), Refusal>
-    ensures answer { result_err result ≡ post_refusal (quoted exchange letter (entries list.old) || free list.old) letter amount }
-    ensures after { entries list.new ≡ unless (post_refusal (quoted exchange letter (entries list.old) || free list.old) letter amount) (posted T.Rank.better exchange letter (quote letter amount) (entries list.old)) (entries list.old) }
-    ensures order { in_rank T.Rank.better (entries list.old) ≡ true → in_rank T.Rank.better (entries list.new) ≡ true }
+    ensures answer { result_err result ≡ post_refusal (quoted T.exchange letter (entries list.old) || free list.old) letter amount }
+    ensures after { entries list.new ≡ unless (post_refusal (quoted T.exchange letter (entries list.old) || free list.old) letter amount) (posted T.better T.exchange letter (T.quote letter amount) (entries list.old)) (entries list.old) }
+    ensures order { in_rank T.better (entries list.old) ≡ true → in_rank T.better (entries list.new) ≡ true }
     ensures room { room list.new ≡ room list.old }
 {
     if !has_place(list, letter) {
@@ -117,8 +117,8 @@ pub(crate) fn clear<T: Quote + Copy>(
     letter: u8,
 ) -> Result<(), Refusal>
     ensures answer { result_err result ≡ clear_refusal letter }
-    ensures after { entries list.new ≡ unless (clear_refusal letter) (without exchange letter (entries list.old)) (entries list.old) }
-    ensures order { in_rank T.Rank.better (entries list.old) ≡ true → in_rank T.Rank.better (entries list.new) ≡ true }
+    ensures after { entries list.new ≡ unless (clear_refusal letter) (without T.exchange letter (entries list.old)) (entries list.old) }
+    ensures order { in_rank T.better (entries list.old) ≡ true → in_rank T.better (entries list.new) ≡ true }
     ensures room { room list.new ≡ room list.old }
 {
     if !is_exchange(letter) {
@@ -130,7 +130,7 @@ pub(crate) fn clear<T: Quote + Copy>(
 
 // The price of the best entry.
 pub(crate) fn best_price<T: Quote + Copy>(list: &RankedList<'_, T>) -> Option<u64>
-    ensures { result ≡ priced price (slice_get (entries list.now) 0) }
+    ensures { result ≡ priced T.price (slice_get (entries list.now) 0) }
 {
     match list.best() {
         Some(best) => Some(best.price()),

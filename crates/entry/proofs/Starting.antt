@@ -1,10 +1,6 @@
 -- The verb of a line, and the fields behind it.
-use Rattle.std.proofs.Common.{◌≡◌, ℕ, Bool, true, false, eqb, List, [], ◌∷◌, length, IsErrAnd, None, Ok, Err, Decides, Option, Result, sym, ap, ◌∙◌}
-use Rattle.std.proofs.lemmas.Slice.Eq.{slice_eq-Decides, bytes_eq-Decides}
+use Rattle.std.proofs.Common.{◌≡◌, ℕ, true, false, eqb, List, [], ◌∷◌, length, IsErrAnd, None, Ok, Err, Option, Result, sym, ap, ◌∙◌}
 use Rattle.std.proofs.lemmas.Result.{err_from_is_err_and}
-use Rattle.std.proofs.lemmas.Bool.Decides.{same_from_decides, Decides-eqb}
-use Rattle.std.specs.Cmp.Lexicographic.{Matches}
-use Rattle.std.specs.Str.{bytes_eq}
 use Rattle.text.specs.Word.{uncommented_of, word_list, leading}
 use Rattle.entry.specs.Entries.{fields_in, entry_in, entry_from, entry_of}
 use Rattle.entry.specs.Shown.{complaint_of, answered}
@@ -13,10 +9,6 @@ use Rattle.entry.specs.declared.board.Entry.{Entry}
 use Rattle.entry.specs.declared.fields.Verb.{Verb}
 use Rattle.entry.specs.declared.problem.Problem.{Problem}
 use Rattle.entry.proofs.Taking.{led, unled}
-
--- what `==` answers
-pub same_is : (xs ys : List ℕ) (r t : Bool) → Matches (λ (a b : ℕ) (s : Bool). Decides s (a ≡ b)) xs ys r → r ≡ t → bytes_eq xs ys ≡ t
-same_is xs ys r t h e = sym (same_from_decides r (bytes_eq xs ys) (slice_eq-Decides Decides-eqb xs ys r h) (bytes_eq-Decides xs ys)) ∙ e
 
 entry_from_lem : (line text : List ℕ) (words : List (List ℕ)) → text ≡ uncommented_of line → word_list text ≡ words → entry_of line ≡ entry_from words
 unfolding entry_of

@@ -17,11 +17,11 @@ pub enum Verb {
 pub fn verb_of(word: &[u8]) -> Option<Verb>
     ensures { result ≡ verb_of word.now }
 {
-    if word == b"update" {
+    if word == b"update".as_slice() {
         Some(Verb::Update)
-    } else if word == b"summary" {
+    } else if word == b"summary".as_slice() {
         Some(Verb::Summary)
-    } else if word == b"send" {
+    } else if word == b"send".as_slice() {
         Some(Verb::Send)
     } else {
         None

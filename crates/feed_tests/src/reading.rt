@@ -187,7 +187,7 @@ fn values(rt: HostRuntime) -> Result<(), Fail> {
     match reader.next() {
         Ok(Some(Message::Unknown(m))) => {
             assert_eq!(rt; m.len(), 5);
-            assert!(rt; m == &[5, 0x20, 7, 8, 9]);
+            assert!(rt; m == [5, 0x20, 7, 8, 9].as_slice());
             Ok(())
         }
         _ => Err(Fail::new("no unknown message")),

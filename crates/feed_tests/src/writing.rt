@@ -12,7 +12,7 @@ fn sample(rt: HostRuntime) {
     assert_eq!(rt; start(&mut buffer), Ok(()));
     assert_eq!(rt; add(&mut buffer, &UPDATE), Ok(()));
     assert_eq!(rt; add(&mut buffer, &SUMMARY), Ok(()));
-    assert!(rt; frame(&buffer) == &FRAME);
+    assert!(rt; frame(&buffer) == FRAME.as_slice());
 }
 
 // Buffers of some sizes: which can be begun in, and which take a summary or an update.

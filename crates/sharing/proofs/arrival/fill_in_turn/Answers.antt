@@ -28,5 +28,5 @@ loop-i-preserved c =
 pub returns : goal.returns
 returns c = sym (done c.args.claims.now c.loop-i.shares c.loop-i.i c.loop-i.left (omega arith) (omega arith)) ∙ c.loop-i.invariant
 
-pub overflow-cast-shares : goal.overflow-cast-shares
-overflow-cast-shares c = omega arith
+pub overflow_cast-shares : goal.overflow_cast-shares
+overflow_cast-shares c = omega arith

@@ -21,8 +21,8 @@ done : (n t : ℕ) (claims : List Claim) (shares : List ℕ) (i left : ℕ) → 
     → take i shares ++ rounded n t left (sizes (drop i claims)) ≡ shares
 done n t claims shares i left h k = ap (λ ys. take i shares ++ ys) (no_more (rounded n t left) claims i h) ∙ written_all_lem shares i k
 
-pub overflow-cast-shares : goal.overflow-cast-shares
-overflow-cast-shares c =
+pub overflow_cast-shares : goal.overflow_cast-shares
+overflow_cast-shares c =
     let w = one_within c.args.n c.args.whole c.loop-i.left c.from-size.result (omega arith) in
     omega arith
 

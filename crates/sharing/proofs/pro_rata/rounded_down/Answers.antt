@@ -4,8 +4,8 @@ use Rattle.sharing.specs.Laws.{floor_le}
 use Rattle.sharing.proofs.Steps.{one_more, no_more}
 use Rattle.sharing.proofs.pro_rata.rounded_down.Goals as goal
 
-pub overflow-add-sum : goal.overflow-add-sum
-overflow-add-sum c = let f = floor_le c.args.n c.args.whole c.from.result (omega arith) in omega arith
+pub overflow_add-sum : goal.overflow_add-sum
+overflow_add-sum c = let f = floor_le c.args.n c.args.whole c.from.result (omega arith) in omega arith
 
 pub loop-claim-preserved : goal.loop-claim-preserved
 loop-claim-preserved c =

@@ -16,8 +16,8 @@ rounded_down-requires c =
     let f = fit c.args.claims.now (length c.args.shares.now) (sym c.if-not-fit_to_share.ensures) in
     (f.few, (omega arith, omega arith))
 
-pub overflow-sub-spare : goal.overflow-sub-spare
-overflow-sub-spare c =
+pub overflow_sub-spare : goal.overflow_sub-spare
+overflow_sub-spare c =
     let g = given_low c.args.n c.claimed-whole.result (sizes c.args.claims.now) (sym c.claimed-whole.ensures) (omega arith) in
     omega arith
 
