@@ -1,4 +1,6 @@
 // Turns a board of messages, one a line, into frames, one a line in hex digits.
+#![tactic(auto)]
+
 ghost use Rattle.std.specs.Prelude.{◌≡◌, List, [], IfOk, vec_len, OnOk};
 ghost use Rattle.feed.specs.Sending.{Sent};
 ghost use Rattle.announce.specs.Sender.{InThisOrNext};

@@ -1,4 +1,6 @@
 // Away prices: what other exchanges bid and offer, and a board of them that is an outside market.
+#![tactic(auto)]
+
 mod board;
 mod prices;
 mod quotes;

@@ -1,4 +1,6 @@
 // Readable lines for a board: messages of the feed and faults of a frame.
+#![tactic(auto)]
+
 mod fault;
 mod message;
 mod word;

@@ -1,4 +1,6 @@
 // Shows frames, one a line in hex digits, as a readable board.
+#![tactic(auto)]
+
 ghost use Rattle.std.specs.Prelude.{◌≡◌, ◌++◌, IfNone, IfOk};
 ghost use Rattle.display.specs.Hexes.{words_in, bad_word, bytes_in, word_given};
 

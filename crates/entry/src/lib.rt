@@ -1,4 +1,6 @@
 // One line of a board, read.
+#![tactic(auto)]
+
 mod board;
 mod fields;
 mod problem;

@@ -1,4 +1,6 @@
 // The feed's messages: their layouts, and how one message is read and written.
+#![tactic(auto)]
+
 mod decode;
 mod encode;
 mod fault;

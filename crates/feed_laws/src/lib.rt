@@ -1,4 +1,6 @@
 // The laws of frames, each the contract of a function.
+#![tactic(auto)]
+
 ghost use Rattle.feed_laws.specs.Laws.{ReadingReturnsWhatWasWritten, WritingWhatWasReadGivesTheSameBytes, EveryReaderFindsEveryMessage, UnknownTypesAreSteppedOver, GrownAtItsEndReadsAsBefore, PublishedExamplesRead};
 
 pub fn reading_returns_what_was_written()

@@ -1,4 +1,5 @@
 // Edge tests of the feed: faults, refusals and growth, as tables.
+#![tactic(auto)]
 
 #[cfg(test)]
 mod reading;

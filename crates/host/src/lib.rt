@@ -1,4 +1,6 @@
 // What a C program calls: numbers and slices alone. host/opening.h says the same in C.
+#![tactic(auto)]
+
 mod reads;
 mod widths;
 mod writes;

@@ -1,4 +1,6 @@
 // Outside markets: what other exchanges bid and offer, behind one interface.
+#![tactic(auto)]
+
 mod cut_off;
 mod live;
 mod market;

@@ -1,4 +1,6 @@
 // A list in the order of rank, over places that its owner lends.
+#![tactic(auto)]
+
 mod list;
 mod rank;
 mod refusal;

@@ -1,4 +1,6 @@
 // A frame, read message by message.
+#![tactic(auto)]
+
 ghost use Rattle.std.specs.Prelude.{◌≡◌, ◌+◌, ◌<◌, ◌≤◌, List, map, length, IfSome, IfOk, slice_index};
 ghost use Rattle.feed.specs.Layouts.{every_type};
 ghost use Rattle.feed.specs.Frames.{saying, cut_from, told, frame_says, first, later};

@@ -1,4 +1,5 @@
 // Edge tests of ranked lists and of the rules that an opening asks, as tables.
+#![tactic(auto)]
 
 #[cfg(test)]
 mod lists;

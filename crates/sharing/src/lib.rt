@@ -1,4 +1,6 @@
 // Sharing rules: how a number of contracts is shared out among claims.
+#![tactic(auto)]
+
 mod arrival;
 mod claim;
 mod pro_rata;

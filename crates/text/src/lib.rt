@@ -1,4 +1,6 @@
 // Text of the programs' lines: words, numbers, bytes in hex, prices and symbols.
+#![tactic(auto)]
+
 mod hex;
 mod number;
 mod price;

@@ -1,4 +1,6 @@
 // Width rules: how far above a bid an offer may be. Bids, offers and widths count ten-thousandths of a dollar.
+#![tactic(auto)]
+
 mod flat;
 mod multiplied;
 mod refusal;

@@ -1,4 +1,6 @@
 // Frames, written into a buffer that the caller lends. The buffer's own bytes say how far its frame is written.
+#![tactic(auto)]
+
 mod frames;
 mod refusal;
 
