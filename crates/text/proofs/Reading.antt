@@ -2,7 +2,7 @@
 use Rattle.std.proofs.Common.{◌≡◌, ℕ, ◌+◌, ◌*◌, ◌/◌, ◌%◌, ◌<◌, true, false, List, [], ◌∷◌, ◌++◌, map, refl, ap, ◌∙◌, arith}
 use Rattle.std.proofs.lemmas.Bool.Decides.{nat_tests}
 use Rattle.std.specs.Char.{digit_char}
-use Rattle.std.specs.List.{flat_map, AllByRecursion as All}
+use Rattle.std.specs.List.{flat_map, AllByRecursion}
 use Rattle.text.specs.Hex.{is_hex_digit, hex_digit, is_hex_pairs, hex_bytes, hex_pair, hex_text, HexReadsBack}
 use Rattle.text.specs.Word.{is_byte, is_blank, uncommented_of, pieces_of, inked, word_list}
 
@@ -48,7 +48,7 @@ pair_back b h =
     let e : hex_digit (digit_char (b / 16)) * 16 + hex_digit (digit_char (b % 16)) ≡ b = rw (p.1, q.1) (omega arith) in
     (rw (p.0, q.0), ap (λ (n : ℕ). n ∷ []) e)
 
-pairs_back : (bs : List ℕ) → All (λ b. b < 256) bs → All (λ w. is_hex_pairs w ≡ true) (map hex_pair bs) × (flat_map hex_bytes (map hex_pair bs) ≡ bs)
+pairs_back : (bs : List ℕ) → AllByRecursion (λ b. b < 256) bs → AllByRecursion (λ w. is_hex_pairs w ≡ true) (map hex_pair bs) × (flat_map hex_bytes (map hex_pair bs) ≡ bs)
 pairs_back [] h = (tt, refl)
 pairs_back (b ∷ bs) h =
     let p = pair_back b h.0 in

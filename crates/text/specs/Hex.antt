@@ -2,7 +2,7 @@
 use Rattle.std.specs.Prelude.{◌≡◌, ℕ, ◌+◌, ◌-◌, ◌*◌, ◌/◌, ◌%◌, ◌<◌, Bool, true, false, cond, ◌&&◌, ◌||◌, List, [], ◌∷◌, ◌++◌, length, take, drop, Some, None, Option, nat_lt}
 use Rattle.std.specs.Int.{is_in_range}
 use Rattle.std.specs.Char.{is_ascii_digit, digit_char}
-use Rattle.std.specs.List.{flat_map, AllByRecursion as All}
+use Rattle.std.specs.List.{flat_map, AllByRecursion}
 use Rattle.text.specs.Word.{uncommented_of, word_list}
 
 -- a hex digit of either case
@@ -48,4 +48,4 @@ Keeps old new = take (length old) new ≡ old
 
 -- a line of what is written, read as any line is: each of its words is hex pairs, and together they write the bytes again
 abbrev pub HexReadsBack : Type 0
-HexReadsBack = (bs : List ℕ) → All (λ b. b < 256) bs → All (λ w. is_hex_pairs w ≡ true) (word_list (uncommented_of (hex_text bs))) × (flat_map hex_bytes (word_list (uncommented_of (hex_text bs))) ≡ bs)
+HexReadsBack = (bs : List ℕ) → AllByRecursion (λ b. b < 256) bs → AllByRecursion (λ w. is_hex_pairs w ≡ true) (word_list (uncommented_of (hex_text bs))) × (flat_map hex_bytes (word_list (uncommented_of (hex_text bs))) ≡ bs)
