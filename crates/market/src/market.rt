@@ -12,7 +12,7 @@ pub trait OutsideMarket {
     // The bid and the offer.
     fn ask(&self) -> (Option<u64>, Option<u64>)
         ensures answer { result ≡ means self.now }
-        ensures unchanged { self.now ≡ self.now };
+        ensures unchanged { self.exit.now ≡ self.entry.now };
 }
 
 // A market that is lent is that market.

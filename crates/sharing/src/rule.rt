@@ -18,7 +18,7 @@ pub trait SharingRule {
     fn share(&self, n: u64, claims: &[Claim], shares: &mut [u32]) -> Result<(), Refusal>
         ensures answer { result_err result ≡ ask_refusal claims.now (length shares.old) }
         ensures after { shares.new ≡ places_after claims.now (means self.now n claims.now) shares.old }
-        ensures unchanged { self.now ≡ self.now };
+        ensures unchanged { self.exit.now ≡ self.entry.now };
 }
 
 // A rule lent is that rule.

@@ -15,7 +15,7 @@ pub trait WidthRule {
     // The width at a bid.
     fn width(&self, bid: u64) -> u64
         ensures answer { result ≡ means self.now bid }
-        ensures unchanged { self.now ≡ self.now };
+        ensures unchanged { self.exit.now ≡ self.entry.now };
 }
 
 // A rule lent is that rule.
