@@ -1,13 +1,13 @@
 /*
  * opening.h: frames of the opening feed and the published widths, for C programs.
  *
- * Link the static library and nothing else:
+ * Link the static library, and a C library for its memcpy:
  *
- *     rt staticlib host
+ *     host/library
  *     cc -I host program.c target/staticlib/libhost.a
  *
- * No function allocates, keeps a state, or calls any other function. Each gives one defined answer for every input,
- * so nothing has to be checked before a call, except what C itself cannot say:
+ * No function allocates, keeps a state, or calls any other function but memcpy. Each gives one defined answer for
+ * every input, so nothing has to be checked before a call, except what C itself cannot say:
  *
  *   - A pointer and the number after it are a run of that many elements, all of which may be read (and written, where
  *     the pointer is not const) during the call. Only where the number is 0 may the pointer be null.

@@ -1,7 +1,7 @@
 #!/usr/bin/env python3
 """Respells this repository's own definitions and lemmas as today's Rattle spells names: words in snake case.
 
-Run once at the top of a checkout, after the kit's port.py. It renames in crates/, whole names only, and says how many.
+Run once at the top of a checkout, after the kit's port.py; a second run would turn names that are right. It renames in crates/, whole names only, and says how many.
 Functions of src/, exported C names, strings, inputs and outputs keep their names. A lemma that would bear the name of
 a definition gets `_lem` behind it.
 """
