@@ -63,7 +63,7 @@ fn breaks(at: usize, byte: u8, messages: usize, reason: Reason, place: usize) ->
 fn try_all(rt: &impl Abort, cases: &[Case]) -> Result<(), Fail> {
     for case in cases {
         let mut frame = FRAME;
-        put(&mut frame, case.at, &[case.byte]);
+        put(&mut frame, case.at, &[case.byte])?;
         reads_to(rt, &frame, case.messages, case.end)?;
     }
     Ok(())
@@ -162,12 +162,12 @@ fn headers(rt: HostRuntime) -> Result<(), Fail> {
 #[test]
 fn the_first_fault_counts(rt: HostRuntime) -> Result<(), Fail> {
     let mut frame = FRAME;
-    put(&mut frame, 14, &[0x1f]);
-    put(&mut frame, 22, b"X");
+    put(&mut frame, 14, &[0x1f])?;
+    put(&mut frame, 22, b"X")?;
     reads_to(&rt, &frame, 0, Some((Reason::Symbol, 14)))?;
-    put(&mut frame, 8, &[63]);
+    put(&mut frame, 8, &[63])?;
     reads_to(&rt, &frame, 0, Some((Reason::Short, 8)))?;
-    put(&mut frame, 8, &[200]);
+    put(&mut frame, 8, &[200])?;
     reads_to(&rt, &frame, 0, Some((Reason::Length, 8)))
 }
 
@@ -198,10 +198,10 @@ fn values(rt: HostRuntime) -> Result<(), Fail> {
 #[test]
 fn grown(rt: HostRuntime) -> Result<(), Fail> {
     let mut frame = [0xaau8; 107];
-    put(&mut frame, 0, &FRAME[0..72]);
-    put(&mut frame, 80, &FRAME[72..99]);
-    put(&mut frame, 0, &[107]);
-    put(&mut frame, 8, &[72]);
+    put(&mut frame, 0, &FRAME[0..72])?;
+    put(&mut frame, 80, &FRAME[72..99])?;
+    put(&mut frame, 0, &[107])?;
+    put(&mut frame, 8, &[72])?;
     let mut reader = Reader::new(&frame);
     match reader.next() {
         Ok(Some(Message::Update(u))) => assert_eq!(rt; u, UPDATE),

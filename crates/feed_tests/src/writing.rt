@@ -94,7 +94,7 @@ fn last_bytes(rt: HostRuntime) -> Result<(), Fail> {
         }
         let buffer = &mut space[0..size];
         let [low, high] = u16::to_le_bytes(length);
-        put(buffer, 0, &[low, high, 1]);
+        put(buffer, 0, &[low, high, 1])?;
         assert_eq!(rt; add(buffer, &SUMMARY).is_ok(), taken);
         let after = if taken {
             usize::from(length) + 27
