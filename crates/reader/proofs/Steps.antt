@@ -61,7 +61,3 @@ moved_says r = after_says r (ahead r) refl
 -- without a fault, what is ahead is the rest of the frame
 pub unfaulted : (r : Reader) → r.fault ≡ None → ahead r ≡ told every_type (cut_from r.left r.place r.frame.now)
 unfaulted r none = ap (λ o. elim o [ None ↦ told every_type (cut_from r.left r.place r.frame.now) | Some fault ↦ breaks fault ]) none
-
--- a message moves a reader behind it
-pub moved_on : (r : Reader) (a : Notice) (next : ℕ) → r.fault ≡ None → Ok (Some a) ≡ first (ahead r) → next ≡ r.place + get_or r.frame.now r.place 0 → record { frame = r.frame; place = next; left = r.left - 1; fault = r.fault } ≡ moved r
-moved_on r a next none said is = (λ i. record { frame = r.frame; place = is i; left = r.left - 1; fault = none i }) ∙ ap (after r) said
