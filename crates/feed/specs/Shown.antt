@@ -1,5 +1,5 @@
 -- What the reading functions return, as a notice.
-use Rattle.std.specs.Prelude.{◌≡◌, ℕ, Some, None, Ok, Err, Option, Result}
+use Rattle.std.specs.Prelude.{◌≡◌, ℕ, Ok, Err, Result}
 use Rattle.feed.specs.Layouts.{Notice, update, summary, unknown}
 use Rattle.feed.specs.declared.fault.Fault.{Fault}
 use Rattle.feed.specs.declared.decode.Found.{Found}
@@ -11,11 +11,6 @@ abbrev pub notice_of : Message → Notice
 notice_of (Update u) = update u
 notice_of (Summary s) = summary s
 notice_of (Unknown m) = unknown m.now
-
--- what was read, unless there is a flaw
-abbrev pub known : {A : Type 0} → Option Fault → A → Result A Fault
-known None told = Ok told
-known (Some fault) told = Err fault
 
 -- a message that was read, or its fault
 abbrev pub heard : Result Message Fault → Result Notice Fault

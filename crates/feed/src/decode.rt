@@ -1,9 +1,9 @@
 // Frames and messages, read from their bytes.
 ghost use Rattle.std.specs.Prelude.{◌≡◌, ◌+◌, ◌^◌, ◌<◌, ◌≤◌, length, IfOk, slice_index};
-ghost use Rattle.feed.specs.Layouts.{printable, symbol_fit, letter_fit, flaw, published, every_type};
+ghost use Rattle.feed.specs.Layouts.{printable, symbol_fit, letter_fit, flaw, checked, published, every_type};
 ghost use Rattle.feed.specs.Faults.{fault_at};
 ghost use Rattle.feed.specs.Frames.{count_of, message_at};
-ghost use Rattle.feed.specs.Shown.{heard, found, known, LentAt};
+ghost use Rattle.feed.specs.Shown.{heard, found, LentAt};
 
 use crate::fault::{Fault, Reason};
 use crate::layout::{Layout, part};
@@ -59,7 +59,7 @@ impl<'a> Part<'a> {
     // What it tells by a layout, or what is wrong with it.
     #[tactic(auto, unfolding(crate::specs::Layouts::flaw))]
     fn known<M: Layout>(&self) -> Result<M, Fault>
-        ensures { result ≡ known (flaw M.SIZE self.now.bytes.now self.now.place) (M.read self.now.bytes.now) }
+        ensures { result ≡ checked (flaw M.SIZE self.now.bytes.now self.now.place) (M.read self.now.bytes.now) }
     {
         if self.bytes.len() < M::SIZE {
             return Err(self.fault(Reason::Short, 0));

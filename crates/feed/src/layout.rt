@@ -54,7 +54,7 @@ pub(crate) fn part<const N: usize>(m: &[u8], place: usize) -> [u8; N]
     bytes
 }
 
-// Writes bytes over a buffer's from a place on.
+// Writes bytes over a buffer's from a place on. Each field is named by its first place; a range would name its end as well.
 pub(crate) fn lay(buffer: &mut [u8], place: usize, m: &[u8])
     requires { place + length m.now ≤ length buffer.old }
     ensures { buffer.new ≡ laid buffer.old place m.now }

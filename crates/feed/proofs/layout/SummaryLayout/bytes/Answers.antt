@@ -1,4 +1,4 @@
-use Rattle.std.proofs.Common.{◌≡◌, [], ◌∷◌, length, sym, ◌∙◌, rules}
+use Rattle.std.proofs.Common.{◌≡◌, length, sym, ap, ◌∙◌, rules}
 use Rattle.feed.specs.Sending.{laid, summary_bytes}
 use Rattle.feed.proofs.Lays.{cells_whole, four_bytes, eight_bytes}
 use Rattle.feed.proofs.layout.SummaryLayout.bytes.Goals as goal
@@ -8,8 +8,8 @@ unfolding laid summary_bytes
 returns-clause-value c =
     let s = c.args.self.now in
     let n : length s.symbol ≡ 8 = search rules in
-    let m2 = c.lay-2.ensures ∙ (λ i. laid (c.lay.ensures i) 2 ((c.to_le_bytes.ensures ∙ four_bytes s.offset) i)) in
-    let m3 = c.lay-3.ensures ∙ (λ i. laid (m2 i) 6 (sym (cells_whole s.symbol 8 n) i)) in
-    let m4 = c.lay-4.ensures ∙ (λ i. laid (m3 i) 14 (s.auction ∷ [])) in
-    let m5 = c.lay-5.ensures ∙ (λ i. laid (m4 i) 15 ((c.to_le_bytes-2.ensures ∙ eight_bytes s.price) i)) in
-    c.lay-6.ensures ∙ (λ i. laid (m5 i) 23 ((c.to_le_bytes-3.ensures ∙ four_bytes s.contracts) i))
+    let lay_symbol = c.lay-3.ensures ∙ ap (laid c.lay-2.new.buffer 6) (sym (cells_whole s.symbol 8 n)) in
+    let offset = c.to_le_bytes.ensures ∙ four_bytes s.offset in
+    let price = c.to_le_bytes-2.ensures ∙ eight_bytes s.price in
+    let contracts = c.to_le_bytes-3.ensures ∙ four_bytes s.contracts in
+    rw (c.lay-6.ensures, c.lay-5.ensures, c.lay-4.ensures, lay_symbol, c.lay-2.ensures, c.lay.ensures, offset, price, contracts)
