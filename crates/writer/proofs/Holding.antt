@@ -107,8 +107,8 @@ holds_more ms m b h roomy one =
 -- what is not refused has room and is fit
 unrefused : (roomy fits : Bool) → None ≡ cond roomy (cond fits None (Some Unfit)) (Some NoRoom) → (roomy ≡ true) × (fits ≡ true)
 unrefused true true e = (refl, refl)
-unrefused true false e = absurd (let z : ◌≡◌ {A = ℕ} 0 1 = cc in omega arith)
-unrefused false fits e = absurd (let z : ◌≡◌ {A = ℕ} 0 1 = cc in omega arith)
+unrefused true false e = cc
+unrefused false fits e = cc
 
 pub held : (ms : List Sent) (m : Sent) (b b' : List ℕ) (why : Option Refusal) → why ≡ refusal b m → b' ≡ written b m → (why ≡ None → InWidths m) → Holds ms b → Holds (sent_after why ms m) b'
 held ms m b b' None is after widths h =
