@@ -12,7 +12,3 @@ filled ms n ws xs long h = subst (Holds ms) (sym (take_at ws (drop (length ws) x
 -- a buffer of 8 bytes and more can be begun in
 pub begins : (why : Option Refusal) (b : List ℕ) → why ≡ start_refusal b → 8 ≤ length b → why ≡ None
 begins why b is eight = is ∙ cond-true _ _ _ (le-leb 8 (length b) eight)
-
--- a call that was lent the buffer tells of the buffer
-pub through : (before after : List Sent) (n : ℕ) (lent items ws : List ℕ) → lent ≡ items → length ws ≡ n → (Holds before lent → Holds after ws) → Holds before items → Holds after (take n (ws ++ drop (length ws) items))
-through before after n lent items ws same long call h = filled after n ws items long (call (subst (Holds before) (sym same) h))
