@@ -1,5 +1,5 @@
--- The faults of a frame: each reason's number and layer.
-use Rattle.std.specs.Prelude.{ℕ}
+-- The faults of a frame: each reason's number and layer, and the texts by which they are shown.
+use Rattle.std.specs.Prelude.{ℕ, List, codes}
 use Rattle.feed.specs.declared.fault.Layer.{Layer}
 use Rattle.feed.specs.declared.fault.Layer.TheVariants.{Frame, Message, Field}
 use Rattle.feed.specs.declared.fault.Reason.{Reason}
@@ -27,3 +27,16 @@ layer_of Leftover = Frame
 -- a reason at a place
 abbrev pub fault_at : Reason → ℕ → Fault
 fault_at reason place = record { reason = reason; place = place }
+
+abbrev pub reason_text : Reason → List ℕ
+reason_text Header = codes "unfit header"
+reason_text Length = codes "unfit length"
+reason_text Short = codes "shorter than its layout"
+reason_text Symbol = codes "unfit symbol"
+reason_text Letter = codes "unfit auction letter"
+reason_text Leftover = codes "bytes left over"
+
+abbrev pub layer_text : Layer → List ℕ
+layer_text Frame = codes "frame"
+layer_text Message = codes "message"
+layer_text Field = codes "field"

@@ -1,6 +1,8 @@
 // What can be wrong with a frame.
-ghost use Rattle.std.specs.Prelude.{◌≡◌};
-ghost use Rattle.feed.specs.Faults.{number_of, layer_of};
+ghost use Rattle.std.specs.Prelude.{◌≡◌, Some};
+ghost use Rattle.feed.specs.Faults.{number_of, layer_of, reason_text, layer_text};
+
+use std::fmt;
 
 // The part of a frame that a fault lies in.
 #[derive(Clone, Copy, Debug, PartialEq)]
@@ -8,6 +10,18 @@ pub enum Layer {
     Frame,
     Message,
     Field,
+}
+
+impl fmt::Display for Layer {
+    ghost output = { λ l. Some (layer_text l) };
+
+    fn fmt<W: fmt::Write>(&self, f: &mut fmt::Formatter<W>) -> fmt::Result {
+        f.write_str(match self {
+            Layer::Frame => "frame",
+            Layer::Message => "message",
+            Layer::Field => "field",
+        })
+    }
 }
 
 #[derive(Clone, Copy, Debug, PartialEq)]
@@ -24,6 +38,21 @@ pub enum Reason {
     Letter,
     // bytes are left over after the counted messages
     Leftover,
+}
+
+impl fmt::Display for Reason {
+    ghost output = { λ r. Some (reason_text r) };
+
+    fn fmt<W: fmt::Write>(&self, f: &mut fmt::Formatter<W>) -> fmt::Result {
+        f.write_str(match self {
+            Reason::Header => "unfit header",
+            Reason::Length => "unfit length",
+            Reason::Short => "shorter than its layout",
+            Reason::Symbol => "unfit symbol",
+            Reason::Letter => "unfit auction letter",
+            Reason::Leftover => "bytes left over",
+        })
+    }
 }
 
 // A fault, and the byte of the frame at which it lies.
