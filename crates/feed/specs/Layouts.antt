@@ -62,8 +62,8 @@ flaw n m place =
     cond (nat_lt (length m) n) (Some (fault_at Short place))
     (cond (symbol_fit (cells 8 6 m)) (cond (letter_fit (slice_index m 14)) None (Some (fault_at Letter (place + 14)))) (Some (fault_at Symbol (place + 6))))
 
--- the notice, unless there is a flaw
-abbrev pub checked : Option Fault → Notice → Result Notice Fault
+-- what is told, unless there is a flaw
+abbrev pub checked : {A : Type 0} → Option Fault → A → Result A Fault
 checked None told = Ok told
 checked (Some fault) told = Err fault
 

@@ -34,6 +34,15 @@ abbrev pub size_of : Sent → ℕ
 size_of (sent_update u) = 64
 size_of (sent_summary s) = 27
 
+-- its symbol and its auction letter
+abbrev pub symbol_of : Sent → List ℕ
+symbol_of (sent_update u) = u.symbol
+symbol_of (sent_summary s) = s.symbol
+
+abbrev pub letter_of : Sent → ℕ
+letter_of (sent_update u) = u.auction
+letter_of (sent_summary s) = s.auction
+
 -- each field within its width: the types of the code see to that
 pub record UpdateWidths (u : Update) : Type 0 where
   pub offset : u.offset < 2 ^ 32

@@ -8,11 +8,14 @@ use Rattle.feed.specs.Layouts.{unknown, Types, every_type, published, understood
 use Rattle.feed.specs.Frames.{says, ends, breaks, saying, followed, part_at, cut_from, count_of, cut, told, frame_says}
 use Rattle.feed.specs.Sending.{Sent, meant, encoded, AllFit, behind, framed, frame_of}
 use Rattle.feed.specs.declared.fault.Reason.TheVariants.{Length, Leftover}
-use Rattle.feed.proofs.Parts.{whole_part}
 use Rattle.feed_laws.specs.Laws.{OwnLength, AllOwn, AllUnknown, placed, grown, moved_by, moved_after, ReadingReturnsWhatWasWritten, EveryReaderFindsEveryMessage, UnknownTypesAreSteppedOver, GrownAtItsEndReadsAsBefore}
 use Rattle.feed_laws.proofs.Numbers.{le_bytes}
 use Rattle.feed_laws.proofs.Trips.{written_read, written_own, grown_read, read_anywhere, grown_own, grown-length}
 use Rattle.feed_laws.proofs.Moves.{understood_moves, followed_moves, followed-after}
+
+-- a message that lies whole in its frame
+whole_part : (f : List ℕ) (place : ℕ) → 2 ≤ get_or f place 0 → place + get_or f place 0 ≤ length f → part_at f place ≡ Ok (record { place = place; bytes = take (get_or f place 0) (drop place f) })
+whole_part f place two fits = cond-true _ _ _ (and_from (leb 2 (get_or f place 0)) (leb (place + get_or f place 0) (length f)) (le-leb 2 (get_or f place 0) two) (le-leb (place + get_or f place 0) (length f) fits))
 
 -- the byte behind p
 here : (p r : List ℕ) → get_or (p ++ r) (length p) 0 ≡ get_or r 0 0

@@ -9,27 +9,25 @@ use std::test::Fail;
 type End = Option<(Reason, usize)>;
 
 // Reads a frame to its end, checks the number of its messages and its end, and that the end stays.
-fn reads_to(rt: &impl Abort, frame: &[u8], messages: usize, end: End) -> Result<(), Fail> {
-    let mut reader = Reader::new(frame);
+fn reads_to(rt: &impl Abort, frame: &[u8], messages: usize, end: End) {
+    let fault = end.map(|(reason, place)| Fault { reason, place });
     let mut said = 0usize;
-    for _ in 0..256 {
-        match reader.next() {
-            Ok(Some(_)) => said = said.saturating_add(1),
-            Ok(None) => break,
-            Err(_) => break,
+    let mut met = None;
+    for message in Reader::new(frame).messages() {
+        match message {
+            Ok(_) => said = said.saturating_add(1),
+            Err(fault) => met = Some(fault),
         }
     }
     assert_eq!(rt; said, messages);
-    let last = reader.next();
-    let again = reader.next();
-    match (end, last, again) {
-        (None, Ok(None), Ok(None)) => Ok(()),
-        (Some((reason, place)), Err(first), Err(second)) => {
-            assert_eq!(rt; first, Fault { reason, place });
-            assert_eq!(rt; second, first);
-            Ok(())
-        }
-        _ => Err(Fail::new("the frame ends otherwise")),
+    assert_eq!(rt; met, fault);
+    let mut reader = Reader::new(frame);
+    for _ in 0..messages {
+        assert!(rt; matches!(reader.next(), Ok(Some(_))));
+    }
+    let last = fault.map_or(Ok(false), Err);
+    for _ in 0..2 {
+        assert_eq!(rt; reader.next().map(|message| message.is_some()), last);
     }
 }
 
@@ -63,8 +61,8 @@ fn breaks(at: usize, byte: u8, messages: usize, reason: Reason, place: usize) ->
 fn try_all(rt: &impl Abort, cases: &[Case]) -> Result<(), Fail> {
     for case in cases {
         let mut frame = FRAME;
-        put(&mut frame, case.at, &[case.byte]);
-        reads_to(rt, &frame, case.messages, case.end)?;
+        put(&mut frame, case.at, &[case.byte])?;
+        reads_to(rt, &frame, case.messages, case.end);
     }
     Ok(())
 }
@@ -137,44 +135,43 @@ fn fields(rt: HostRuntime) -> Result<(), Fail> {
 }
 
 #[test]
-fn headers(rt: HostRuntime) -> Result<(), Fail> {
-    reads_to(&rt, &[], 0, Some((Reason::Header, 0)))?;
-    reads_to(&rt, &[7, 0, 0, 0, 0, 0, 0], 0, Some((Reason::Header, 0)))?;
-    reads_to(&rt, &[8, 0, 0, 0, 0, 0, 0, 0], 0, None)?;
-    reads_to(&rt, &[9, 0, 0, 0, 0, 0, 0, 0], 0, Some((Reason::Header, 0)))?;
-    reads_to(&rt, &[8, 0, 1, 0, 0, 0, 0, 0], 0, Some((Reason::Length, 8)))?;
+fn headers(rt: HostRuntime) {
+    reads_to(&rt, &[], 0, Some((Reason::Header, 0)));
+    reads_to(&rt, &[7, 0, 0, 0, 0, 0, 0], 0, Some((Reason::Header, 0)));
+    reads_to(&rt, &[8, 0, 0, 0, 0, 0, 0, 0], 0, None);
+    reads_to(&rt, &[9, 0, 0, 0, 0, 0, 0, 0], 0, Some((Reason::Header, 0)));
+    reads_to(&rt, &[8, 0, 1, 0, 0, 0, 0, 0], 0, Some((Reason::Length, 8)));
     reads_to(
         &rt,
         &[9, 0, 1, 0, 0, 0, 0, 0, 1],
         0,
         Some((Reason::Length, 8)),
-    )?;
-    reads_to(&rt, &[10, 0, 1, 0, 0, 0, 0, 0, 2, 0x20], 1, None)?;
+    );
+    reads_to(&rt, &[10, 0, 1, 0, 0, 0, 0, 0, 2, 0x20], 1, None);
     reads_to(
         &rt,
         &[9, 0, 0, 0, 0, 0, 0, 0, 1],
         0,
         Some((Reason::Leftover, 8)),
-    )
+    );
 }
 
 // The symbol comes before the letter, and a short message before its fields.
 #[test]
 fn the_first_fault_counts(rt: HostRuntime) -> Result<(), Fail> {
     let mut frame = FRAME;
-    put(&mut frame, 14, &[0x1f]);
-    put(&mut frame, 22, b"X");
-    reads_to(&rt, &frame, 0, Some((Reason::Symbol, 14)))?;
-    put(&mut frame, 8, &[63]);
-    reads_to(&rt, &frame, 0, Some((Reason::Short, 8)))?;
-    put(&mut frame, 8, &[200]);
-    reads_to(&rt, &frame, 0, Some((Reason::Length, 8)))
+    put(&mut frame, 14, &[0x1f])?;
+    put(&mut frame, 22, b"X")?;
+    reads_to(&rt, &frame, 0, Some((Reason::Symbol, 14)));
+    put(&mut frame, 8, &[63])?;
+    reads_to(&rt, &frame, 0, Some((Reason::Short, 8)));
+    put(&mut frame, 8, &[200])?;
+    reads_to(&rt, &frame, 0, Some((Reason::Length, 8)));
+    Ok(())
 }
 
-// The values of the sample, and the bytes of an unknown message.
-#[test]
-fn values(rt: HostRuntime) -> Result<(), Fail> {
-    let mut reader = Reader::new(&FRAME);
+// Reads the sample's update and its summary.
+fn reads_sample(rt: &impl Abort, reader: &mut Reader<'_>) -> Result<(), Fail> {
     match reader.next() {
         Ok(Some(Message::Update(u))) => assert_eq!(rt; u, UPDATE),
         _ => return Err(Fail::new("no update")),
@@ -183,6 +180,13 @@ fn values(rt: HostRuntime) -> Result<(), Fail> {
         Ok(Some(Message::Summary(s))) => assert_eq!(rt; s, SUMMARY),
         _ => return Err(Fail::new("no summary")),
     }
+    Ok(())
+}
+
+// The values of the sample, and the bytes of an unknown message.
+#[test]
+fn values(rt: HostRuntime) -> Result<(), Fail> {
+    reads_sample(&rt, &mut Reader::new(&FRAME))?;
     let mut reader = Reader::new(&[13, 0, 1, 0, 0, 0, 0, 0, 5, 0x20, 7, 8, 9]);
     match reader.next() {
         Ok(Some(Message::Unknown(m))) => {
@@ -198,20 +202,13 @@ fn values(rt: HostRuntime) -> Result<(), Fail> {
 #[test]
 fn grown(rt: HostRuntime) -> Result<(), Fail> {
     let mut frame = [0xaau8; 107];
-    put(&mut frame, 0, &FRAME[0..72]);
-    put(&mut frame, 80, &FRAME[72..99]);
-    put(&mut frame, 0, &[107]);
-    put(&mut frame, 8, &[72]);
-    let mut reader = Reader::new(&frame);
-    match reader.next() {
-        Ok(Some(Message::Update(u))) => assert_eq!(rt; u, UPDATE),
-        _ => return Err(Fail::new("no update")),
-    }
-    match reader.next() {
-        Ok(Some(Message::Summary(s))) => assert_eq!(rt; s, SUMMARY),
-        _ => return Err(Fail::new("no summary")),
-    }
-    reads_to(&rt, &frame, 2, None)
+    put(&mut frame, 0, &FRAME[0..72])?;
+    put(&mut frame, 80, &FRAME[72..99])?;
+    put(&mut frame, 0, &[107])?;
+    put(&mut frame, 8, &[72])?;
+    reads_sample(&rt, &mut Reader::new(&frame))?;
+    reads_to(&rt, &frame, 2, None);
+    Ok(())
 }
 
 // A reader that goes on at a place: whether a message is there, and where the reader then stands.
@@ -229,11 +226,7 @@ fn goes_on(rt: HostRuntime) {
     for (place, left, found, then) in cases {
         let mut reader = Reader::resume(&FRAME, place, left);
         assert_eq!(rt; reader.position(), (place, left));
-        let told = match reader.next() {
-            Ok(Some(_)) => true,
-            _ => false,
-        };
-        assert_eq!(rt; told, found);
+        assert_eq!(rt; matches!(reader.next(), Ok(Some(_))), found);
         assert_eq!(rt; reader.position(), then);
     }
 }

@@ -1,6 +1,6 @@
 // What the writer takes and refuses at the edges.
 use crate::sample::{FRAME, SUMMARY, UPDATE};
-use feed::{Encode, Summary, put};
+use feed::{Encode, Summary, Update, put};
 use std::process::Abort;
 use std::test::Fail;
 use writer::{Refusal, add, frame, start};
@@ -13,6 +13,14 @@ fn sample(rt: HostRuntime) {
     assert_eq!(rt; add(&mut buffer, &UPDATE), Ok(()));
     assert_eq!(rt; add(&mut buffer, &SUMMARY), Ok(()));
     assert!(rt; frame(&buffer) == FRAME.as_slice());
+}
+
+// Whether a frame can be begun in so many bytes, and whether a message then goes into it.
+fn begins_and_takes(size: usize, message: &impl Encode) -> Result<(bool, bool), Fail> {
+    let mut space = [0u8; 72];
+    let buffer = space.get_mut(..size).ok_or("a size past the space")?;
+    let begins = start(buffer).is_ok();
+    Ok((begins, add(buffer, message).is_ok()))
 }
 
 // Buffers of some sizes: which can be begun in, and which take a summary or an update.
@@ -28,17 +36,8 @@ fn buffers(rt: HostRuntime) -> Result<(), Fail> {
         (72, true, true, true),
     ];
     for (size, begins, summed, updated) in sizes {
-        let mut space = [0u8; 72];
-        if size > 72 {
-            return Err(Fail::new("a size past the space"));
-        }
-        let buffer = &mut space[0..size];
-        assert_eq!(rt; start(buffer).is_ok(), begins);
-        assert_eq!(rt; add(buffer, &SUMMARY).is_ok(), summed);
-        let mut space = [0u8; 72];
-        let buffer = &mut space[0..size];
-        assert_eq!(rt; start(buffer).is_ok(), begins);
-        assert_eq!(rt; add(buffer, &UPDATE).is_ok(), updated);
+        assert_eq!(rt; begins_and_takes(size, &SUMMARY)?, (begins, summed));
+        assert_eq!(rt; begins_and_takes(size, &UPDATE)?, (begins, updated));
     }
     Ok(())
 }
@@ -49,12 +48,8 @@ fn filled(rt: &impl Abort, buffer: &mut [u8], updates: usize) -> Result<usize, F
     for _ in 0..updates {
         assert_eq!(rt; add(buffer, &UPDATE), Ok(()));
     }
-    for taken in 0..100 {
-        if add(buffer, &SUMMARY).is_err() {
-            return Ok(taken);
-        }
-    }
-    Err(Fail::new("no end"))
+    let taken = (0..100).position(|_| add(buffer, &SUMMARY).is_err());
+    Ok(taken.ok_or("no end")?)
 }
 
 // The longest frames: 6 updates and 41 summaries are 1,499 bytes; 17 updates and 15 summaries would be 1,501.
@@ -89,27 +84,21 @@ fn last_bytes(rt: HostRuntime) -> Result<(), Fail> {
     ];
     for (length, size, taken) in lengths {
         let mut space = [0u8; 2000];
-        if size > 2000 {
-            return Err(Fail::new("a size past the space"));
-        }
-        let buffer = &mut space[0..size];
+        let buffer = space.get_mut(..size).ok_or("a size past the space")?;
         let [low, high] = u16::to_le_bytes(length);
-        put(buffer, 0, &[low, high, 1]);
+        put(buffer, 0, &[low, high, 1])?;
         assert_eq!(rt; add(buffer, &SUMMARY).is_ok(), taken);
-        let after = if taken {
-            usize::from(length) + 27
-        } else {
-            usize::from(length)
-        };
+        let after = usize::from(length) + if taken { 27 } else { 0 };
         assert_eq!(rt; frame(buffer).len(), after.min(size));
     }
     Ok(())
 }
 
 fn with_symbol(byte: u8) -> Summary {
-    let mut summary = SUMMARY;
-    summary.symbol = [b'A', byte, b' ', b' ', b' ', b' ', b' ', b' '];
-    summary
+    Summary {
+        symbol: [b'A', byte, b' ', b' ', b' ', b' ', b' ', b' '],
+        ..SUMMARY
+    }
 }
 
 // Unfit fields, and that want of room comes first.
@@ -140,8 +129,10 @@ fn fields(rt: HostRuntime) {
     for (letter, fit) in letters {
         let mut buffer = [0u8; 72];
         assert_eq!(rt; start(&mut buffer), Ok(()));
-        let mut update = UPDATE;
-        update.auction = letter;
+        let update = Update {
+            auction: letter,
+            ..UPDATE
+        };
         assert_eq!(rt; add(&mut buffer, &update).is_ok(), fit);
     }
     let mut buffer = [0u8; 34];
@@ -150,13 +141,9 @@ fn fields(rt: HostRuntime) {
     let mut buffer = [0u8; 35];
     assert_eq!(rt; start(&mut buffer), Ok(()));
     assert_eq!(rt; add(&mut buffer, &with_symbol(0x1f)), Err(Refusal::Unfit));
-    assert!(rt;
-        buffer
-            == [
-                8, 0, 0, 0, 0, 0, 0, 0, 0, 0, 0, 0, 0, 0, 0, 0, 0, 0, 0, 0, 0, 0, 0, 0, 0, 0, 0, 0,
-                0, 0, 0, 0, 0, 0, 0,
-            ]
-    );
+    let mut begun = [0u8; 35];
+    begun[0] = 8;
+    assert!(rt; buffer == begun);
 }
 
 // Buffers that hold no frame, and a frame that counts as many messages as a header can.

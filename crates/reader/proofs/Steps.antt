@@ -29,15 +29,15 @@ first_more knows (suc n) place f h = first_part knows (part_at f place) (cut_fro
 -- a message that was said is cut off
 later-followed : {A : Type 0} (r : Result A Fault) (s : Said A) (a : A) (t : Said A) → followed r s ≡ says a t → s ≡ t
 later-followed (Ok b) s a t e = cc
-later-followed (Err fault) s a t e = absurd (let z : ◌≡◌ {A = ℕ} 0 1 = cc in omega arith)
+later-followed (Err fault) s a t e = cc
 
 later_part : (knows : Types) (r : Result Part Fault) (s : Said Part) (a : Notice) (t : Said Notice) → told knows (followed r s) ≡ says a t → told knows s ≡ t
 later_part knows (Ok part) s a t e = later-followed (understood knows part.bytes part.place) (told knows s) a t e
-later_part knows (Err fault) s a t e = absurd (let z : ◌≡◌ {A = ℕ} 0 1 = cc in omega arith)
+later_part knows (Err fault) s a t e = cc
 
 end_silent : (knows : Types) (b : Bool) (fault : Fault) (a : Notice) (t : Said Notice) → told knows (cond b (breaks fault) ends) ≡ says a t → ⊥
-end_silent knows true fault a t e = let z : ◌≡◌ {A = ℕ} 0 1 = cc in omega arith
-end_silent knows false fault a t e = let z : ◌≡◌ {A = ℕ} 0 1 = cc in omega arith
+end_silent knows true fault a t e = cc
+end_silent knows false fault a t e = cc
 
 behind_said : (knows : Types) (n place : ℕ) (f : List ℕ) (a : Notice) (t : Said Notice) → told knows (cut_from n place f) ≡ says a t → told knows (cut_from (n - 1) (place + get_or f place 0) f) ≡ t
 behind_said knows zero place f a t e = absurd (end_silent knows (ltb place (length f)) (fault_at Leftover place) a t e)
@@ -47,7 +47,7 @@ behind_said knows (suc n) place f a t e =
 
 onward_says : (fault : Option Fault) (frame : Bor (List ℕ)) (place left : ℕ) (a : Notice) (t : Said Notice) → ahead (record { frame = frame; place = place; left = left; fault = fault }) ≡ says a t → ahead (onward (record { frame = frame; place = place; left = left; fault = fault })) ≡ t
 onward_says None frame place left a t e = behind_said every_type left place frame.now a t e
-onward_says (Some fault) frame place left a t e = absurd (let z : ◌≡◌ {A = ℕ} 0 1 = cc in omega arith)
+onward_says (Some fault) frame place left a t e = cc
 
 after_says : (r : Reader) (s : Said Notice) → ahead r ≡ s → ahead (after r (first s)) ≡ later s
 after_says r (says a t) e = onward_says r.fault r.frame r.place r.left a t e
@@ -61,7 +61,3 @@ moved_says r = after_says r (ahead r) refl
 -- without a fault, what is ahead is the rest of the frame
 pub unfaulted : (r : Reader) → r.fault ≡ None → ahead r ≡ told every_type (cut_from r.left r.place r.frame.now)
 unfaulted r none = ap (λ o. elim o [ None ↦ told every_type (cut_from r.left r.place r.frame.now) | Some fault ↦ breaks fault ]) none
-
--- a message moves a reader behind it
-pub moved_on : (r : Reader) (a : Notice) (next : ℕ) → r.fault ≡ None → Ok (Some a) ≡ first (ahead r) → next ≡ r.place + get_or r.frame.now r.place 0 → record { frame = r.frame; place = next; left = r.left - 1; fault = r.fault } ≡ moved r
-moved_on r a next none said is = (λ i. record { frame = r.frame; place = is i; left = r.left - 1; fault = none i }) ∙ ap (after r) said

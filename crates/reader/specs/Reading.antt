@@ -1,12 +1,13 @@
 -- A reader: what it has yet to say, and how a call moves it.
-use Rattle.std.specs.Prelude.{ℕ, ◌+◌, ◌-◌, List, Some, None, Ok, Err, Option, Result, slice_index}
+use Rattle.std.specs.Prelude.{ℕ, ◌+◌, ◌-◌, List, [], ◌∷◌, Some, None, Ok, Err, Option, Result, slice_index}
 use Rattle.std.specs.Borrow.{Bor}
 use Rattle.feed.specs.Layouts.{Notice, every_type}
-use Rattle.feed.specs.Frames.{Said, breaks, cut_from, count_of, told, first}
+use Rattle.feed.specs.Frames.{Said, says, ends, breaks, cut_from, count_of, told, first}
 use Rattle.feed.specs.Shown.{notice_of}
 use Rattle.feed.specs.declared.decode.Found.{Found}
 use Rattle.feed.specs.declared.fault.Fault.{Fault}
 use Rattle.feed.specs.declared.message.Message.{Message}
+use Rattle.reader.specs.declared.Messages.{Messages}
 use Rattle.reader.specs.declared.Reader.{Reader}
 
 -- what a reader has yet to say
@@ -45,3 +46,13 @@ abbrev pub answered_found : Result (Option Found) Fault → Result (Option Notic
 answered_found (Ok None) = Ok None
 answered_found (Ok (Some found)) = Ok (Some (notice_of found.message))
 answered_found (Err fault) = Err fault
+
+-- the messages that are said, and then the fault, if there is one
+abbrev pub items : Said Notice → List (Result Notice Fault)
+items (says told others) = Ok told ∷ items others
+items ends = []
+items (breaks fault) = Err fault ∷ []
+
+-- what an iterator has yet to give
+abbrev pub items_left : Messages → List (Result Notice Fault)
+items_left m = elim m.reader [ None ↦ [] | Some r ↦ items (ahead r) ]

@@ -1,5 +1,5 @@
 -- A buffer with one message more.
-use Rattle.std.proofs.Common.{◌≡◌, ℕ, ◌+◌, ◌<◌, ◌≤◌, Bool, true, cond, ltb, leb, List, [], ◌∷◌, ◌++◌, length, Some, None, sym, ap, ◌∙◌, arith}
+use Rattle.std.proofs.Common.{◌≡◌, ℕ, ◌+◌, ◌<◌, ◌≤◌, true, ltb, leb, List, [], ◌∷◌, ◌++◌, length, Some, None, sym, ap, ◌∙◌, arith}
 use Rattle.std.proofs.lemmas.Bool.{cond-true, leb-true, ltb-true, le-leb, and_parts}
 use Rattle.feed.specs.Bytes.{bytes}
 use Rattle.feed.specs.Sending.{Sent, encoded, size_of, fit, laid}
@@ -22,15 +22,18 @@ room b n e =
 pub taken : (b : List ℕ) (m : Sent) → has_room b (size_of m) ≡ true → fit m ≡ true → None ≡ refusal b m
 taken b m roomy fits = sym (cond-true _ _ _ roomy ∙ cond-true _ _ _ fits)
 
--- the message behind the frame, and then the header
-pub extends : (b w b' : List ℕ) (m : Sent) (size at count : ℕ) (ok : Bool) → size ≡ length (encoded m) → at ≡ length_in b → count ≡ count_in b → has_room b (size_of m) ≡ true → fit m ≡ true → ok ≡ leb (at + length (encoded m)) (length b) → w ≡ cond ok (laid b at (encoded m)) b → b' ≡ laid w 0 (bytes 2 (at + size) ++ ((count + 1) ∷ [])) → b' ≡ written b m
-unfolding extended
-extends b w b' m size at count ok long begins number roomy fits lies Laid-on headed =
-    let r = room b (size_of m) roomy in
+-- where there is room, the message fits the buffer
+pub fits_within : (b : List ℕ) (m : Sent) (at : ℕ) → at ≡ length_in b → has_room b (size_of m) ≡ true → leb (at + length (encoded m)) (length b) ≡ true
+fits_within b m at begins roomy =
     let same = encoded_size m in
-    let within = r.within in
-    let ok-true : ok ≡ true = lies ∙ le-leb (at + length (encoded m)) (length b) (omega arith) in
-    let body : w ≡ laid b (length_in b) (encoded m) = Laid-on ∙ cond-true ok _ _ ok-true ∙ ap (λ k. laid b k (encoded m)) begins in
+    let within = (room b (size_of m) roomy).within in
+    le-leb (at + length (encoded m)) (length b) (omega arith)
+
+-- the message behind the frame, and then the header
+pub extends : (b w b' : List ℕ) (m : Sent) (size at count : ℕ) → size ≡ length (encoded m) → at ≡ length_in b → count ≡ count_in b → has_room b (size_of m) ≡ true → fit m ≡ true → w ≡ laid b at (encoded m) → b' ≡ laid w 0 (bytes 2 (at + size) ++ ((count + 1) ∷ [])) → b' ≡ written b m
+unfolding extended
+extends b w b' m size at count long begins number roomy fits laid_on headed =
+    let body : w ≡ laid b (length_in b) (encoded m) = laid_on ∙ ap (λ k. laid b k (encoded m)) begins in
     headed
     ∙ (λ i. laid (body i) 0 (bytes 2 (begins i + long i) ++ ((number i + 1) ∷ [])))
     ∙ ap (λ o. elim o [ None ↦ extended b (encoded m) | Some why ↦ b ]) (taken b m roomy fits)

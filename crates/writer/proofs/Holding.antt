@@ -9,7 +9,7 @@ use Rattle.feed.specs.Sending.{Sent, sent_update, sent_summary, meant, encoded, 
 use Rattle.feed.proofs.Lays.{encoded_size}
 use Rattle.feed_laws.proofs.Numbers.{le_bytes}
 use Rattle.feed_laws.proofs.Walks.{written_trip}
-use Rattle.writer.specs.Writing.{length_in, count_in, frame_in, has_room, refusal, extended, written, written_all, start_refusal, empty_frame, begun, Holds, sent_after}
+use Rattle.writer.specs.Writing.{length_in, count_in, frame_in, has_room, refusal, extended, written, written_all, empty_frame, begun, Holds, sent_after}
 use Rattle.writer.specs.declared.refusal.Refusal.{Refusal}
 use Rattle.writer.specs.declared.refusal.Refusal.TheVariants.{NoRoom, Unfit}
 use Rattle.writer.proofs.Extends.{room, taken}
@@ -107,8 +107,8 @@ holds_more ms m b h roomy one =
 -- what is not refused has room and is fit
 unrefused : (roomy fits : Bool) → None ≡ cond roomy (cond fits None (Some Unfit)) (Some NoRoom) → (roomy ≡ true) × (fits ≡ true)
 unrefused true true e = (refl, refl)
-unrefused true false e = absurd (let z : ◌≡◌ {A = ℕ} 0 1 = cc in omega arith)
-unrefused false fits e = absurd (let z : ◌≡◌ {A = ℕ} 0 1 = cc in omega arith)
+unrefused true false e = cc
+unrefused false fits e = cc
 
 pub held : (ms : List Sent) (m : Sent) (b b' : List ℕ) (why : Option Refusal) → why ≡ refusal b m → b' ≡ written b m → (why ≡ None → InWidths m) → Holds ms b → Holds (sent_after why ms m) b'
 held ms m b b' None is after widths h =
@@ -116,10 +116,6 @@ held ms m b b' None is after widths h =
     let new = after ∙ ap (λ o. elim o [ None ↦ extended b (encoded m) | Some w ↦ b ]) (sym is) in
     subst (Holds (ms ++ m ∷ [])) (sym new) (holds_more ms m b h t.0 (record { fields = t.1; widths = widths refl }))
 held ms m b b' (Some why) is after widths h = subst (Holds ms) (sym (after ∙ ap (λ o. elim o [ None ↦ extended b (encoded m) | Some w ↦ b ]) (sym is))) h
-
-startable : (eight : Bool) → None ≡ cond eight None (Some NoRoom) → eight ≡ true
-startable true e = refl
-startable false e = absurd (let z : ◌≡◌ {A = ℕ} 0 1 = cc in omega arith)
 
 lays_first : (b : List ℕ) → laid b 0 empty_frame ≡ frame_of [] ++ drop 8 b
 unfolding laid frame_of
@@ -130,9 +126,9 @@ unfolding frame_of
 eight_long = refl
 
 -- a frame that was begun holds nothing
-pub starts : (b b' : List ℕ) (why : Option Refusal) → why ≡ start_refusal b → b' ≡ begun b → why ≡ None → Holds [] b'
-starts b b' why is after none =
-    let begins : b' ≡ frame_of [] ++ drop 8 b = after ∙ cond-true _ _ _ (startable (leb 8 (length b)) (sym none ∙ is)) ∙ lays_first b in
+pub starts : (b b' : List ℕ) → leb 8 (length b) ≡ true → b' ≡ begun b → Holds [] b'
+starts b b' able after =
+    let begins : b' ≡ frame_of [] ++ drop 8 b = after ∙ cond-true _ _ _ able ∙ lays_first b in
     let eight = eight_long in
     record { frame = ap frame_in begins ∙ begins_frame [] (drop 8 b) (omega arith); fits = tt; short = omega arith }
 
@@ -217,11 +213,11 @@ takes_all (m ∷ ms) done b h fits most within =
     (takes_all ms (done ++ m ∷ []) (extended b e) held_on fits.1 (omega arith) (omega arith)))
 
 -- from the start, all messages whose frame fits are written
-pub starts_all : (b b' : List ℕ) (why : Option Refusal) → why ≡ start_refusal b → b' ≡ begun b → (ms : List Sent) → AllFit ms → length (frame_of ms) ≤ 1500 → length (frame_of ms) ≤ length b → Holds ms (written_all b' ms)
-starts_all b b' why is after ms fits most within =
+pub starts_all : (b b' : List ℕ) → b' ≡ begun b → (ms : List Sent) → AllFit ms → length (frame_of ms) ≤ 1500 → length (frame_of ms) ≤ length b → Holds ms (written_all b' ms)
+starts_all b b' after ms fits most within =
     let eight = frame_length ms in
-    let able : why ≡ None = is ∙ cond-true _ _ _ (le-leb 8 (length b) (omega arith)) in
-    let begins : b' ≡ laid b 0 empty_frame = after ∙ cond-true _ _ _ (le-leb 8 (length b) (omega arith)) in
+    let able : leb 8 (length b) ≡ true = le-leb 8 (length b) (omega arith) in
+    let begins : b' ≡ laid b 0 empty_frame = after ∙ cond-true _ _ _ able in
     let head = eight_long in
     let size : length b' ≡ length b = ap length begins ∙ length-laid b 0 empty_frame (omega arith) in
-    takes_all ms [] b' (starts b b' why is after able) fits most (omega arith)
+    takes_all ms [] b' (starts b b' able after) fits most (omega arith)

@@ -3,7 +3,7 @@ ghost use Rattle.std.specs.Prelude.{◌≡◌, ◌≤◌, List, [], ◌∷◌, �
 ghost use Rattle.feed.specs.Bytes.{bytes};
 ghost use Rattle.feed.specs.Layouts.{every_type};
 ghost use Rattle.feed.specs.Frames.{saying, frame_says};
-ghost use Rattle.feed.specs.Sending.{Sent, meant, InWidths, AllFit, frame_of, laid};
+ghost use Rattle.feed.specs.Sending.{Sent, meant, AllFit, frame_of, laid};
 ghost use Rattle.writer.specs.Refusals.{refused};
 ghost use Rattle.writer.specs.Writing.{length_in, frame_in, has_room, refusal, written, start_refusal, begun, written_all, Holds, sent_after};
 
@@ -25,34 +25,15 @@ fn has_room(buffer: &[u8], n: usize) -> bool
     ensures { result ≡ has_room buffer.now n }
 {
     let length = length_in(buffer);
-    length >= 8
-        && byte_at(buffer, 2) < 255
-        && n <= MAX_FRAME
-        && length + n <= MAX_FRAME
-        && length + n <= buffer.len()
+    let end = length.saturating_add(n);
+    length >= 8 && byte_at(buffer, 2) < 255 && end <= MAX_FRAME && end <= buffer.len()
 }
 
 // The frame at the start of a buffer.
 pub fn frame(buffer: &[u8]) -> &[u8]
     ensures { result.now ≡ frame_in buffer.now }
 {
-    let length = length_in(buffer);
-    if length >= buffer.len() {
-        return buffer;
-    }
-    &buffer[0..length]
-}
-
-// Begins a frame without a message.
-fn begin(buffer: &mut [u8]) -> Result<(), Refusal>
-    ensures answer { refused result ≡ start_refusal buffer.old }
-    ensures after { buffer.new ≡ begun buffer.old }
-{
-    if put(buffer, 0, &[8, 0, 0, 0, 0, 0, 0, 0]) {
-        Ok(())
-    } else {
-        Err(Refusal::NoRoom)
-    }
+    buffer.get(..length_in(buffer)).unwrap_or(buffer)
 }
 
 // Writes a frame's length and its count of messages into its header.
@@ -60,15 +41,27 @@ fn write_header(buffer: &mut [u8], total: u16, count: u8)
     requires { 8 ≤ length buffer.old }
     ensures { buffer.new ≡ laid buffer.old 0 (bytes 2 total ++ (count ∷ [])) }
 {
-    let n = total.to_le_bytes();
-    put(buffer, 0, &[n[0], n[1], count]);
+    buffer[0..2].copy_from_slice(&total.to_le_bytes());
+    buffer[2] = count;
 }
 
-// Writes a message behind a buffer's frame.
-fn append<M: Encode>(buffer: &mut [u8], message: &M) -> Result<(), Refusal>
+// Begins a frame without a message at the start of `buffer`.
+pub fn start(buffer: &mut [u8]) -> Result<(), Refusal>
+    ensures answer { refused result ≡ start_refusal buffer.old }
+    ensures after { buffer.new ≡ begun buffer.old }
+    ensures holds { refused result ≡ None → Holds [] buffer.new }
+    ensures all_that_fits_is_written { (ms : List Sent) → AllFit ms → length (frame_of ms) ≤ 1500 → length (frame_of ms) ≤ length buffer.old → Holds ms (written_all buffer.new ms) }
+{
+    put(buffer, 0, &[8, 0, 0, 0, 0, 0, 0, 0])?;
+    Ok(())
+}
+
+// Writes a message behind the frame at the start of `buffer`.
+pub fn add<M: Encode>(buffer: &mut [u8], message: &M) -> Result<(), Refusal>
     ensures answer { refused result ≡ refusal buffer.old (M.Encode.sent message.now) }
     ensures after { buffer.new ≡ written buffer.old (M.Encode.sent message.now) }
-    ensures widths { refused result ≡ None → InWidths (M.Encode.sent message.now) }
+    ensures holds { (ms : List Sent) → Holds ms buffer.old → Holds (sent_after (refused result) ms (M.Encode.sent message.now)) buffer.new }
+    ensures reads { (ms : List Sent) → Holds ms buffer.old → frame_says every_type (frame_in buffer.new) ≡ saying (map meant (sent_after (refused result) ms (M.Encode.sent message.now))) }
 {
     let size = message.size();
     if !has_room(buffer, size) {
@@ -79,27 +72,7 @@ fn append<M: Encode>(buffer: &mut [u8], message: &M) -> Result<(), Refusal>
     }
     let length = length_in(buffer);
     let count = byte_at(buffer, 2);
-    message.write_at(buffer, length);
+    message.write_at(buffer, length)?;
     write_header(buffer, (length + size) as u16, count + 1);
     Ok(())
-}
-
-// Begins a frame without a message at the start of `buffer`.
-pub fn start(buffer: &mut [u8]) -> Result<(), Refusal>
-    ensures answer { refused result ≡ start_refusal buffer.old }
-    ensures after { buffer.new ≡ begun buffer.old }
-    ensures holds { refused result ≡ None → Holds [] buffer.new }
-    ensures all_that_fits_is_written { (ms : List Sent) → AllFit ms → length (frame_of ms) ≤ 1500 → length (frame_of ms) ≤ length buffer.old → Holds ms (written_all buffer.new ms) }
-{
-    begin(buffer)
-}
-
-// Writes a message behind the frame at the start of `buffer`.
-pub fn add<M: Encode>(buffer: &mut [u8], message: &M) -> Result<(), Refusal>
-    ensures answer { refused result ≡ refusal buffer.old (M.Encode.sent message.now) }
-    ensures after { buffer.new ≡ written buffer.old (M.Encode.sent message.now) }
-    ensures holds { (ms : List Sent) → Holds ms buffer.old → Holds (sent_after (refused result) ms (M.Encode.sent message.now)) buffer.new }
-    ensures reads { (ms : List Sent) → Holds ms buffer.old → frame_says every_type (frame_in buffer.new) ≡ saying (map meant (sent_after (refused result) ms (M.Encode.sent message.now))) }
-{
-    append(buffer, message)
 }

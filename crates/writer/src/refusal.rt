@@ -1,6 +1,9 @@
 // Why a message is not written.
 ghost use Rattle.std.specs.Prelude.{◌≡◌};
 ghost use Rattle.writer.specs.Refusals.{number_of};
+ghost use Rattle.writer.specs.declared.refusal.Refusal.TheVariants.{NoRoom};
+
+use feed::NoRoom;
 
 #[derive(Clone, Copy, Debug, PartialEq)]
 pub enum Refusal {
@@ -19,5 +22,13 @@ impl Refusal {
             Refusal::NoRoom => 35,
             Refusal::Unfit => 36,
         }
+    }
+}
+
+impl From<NoRoom> for Refusal {
+    ghost from_gives = { λ _ refusal. refusal ≡ NoRoom };
+
+    fn from(_no_room: NoRoom) -> Refusal {
+        Self::NoRoom
     }
 }

@@ -1,19 +1,13 @@
-use Rattle.std.proofs.Common.{◌+◌, ◌&&◌, drop, sym, ap, ◌∙◌, rules}
-use Rattle.std.proofs.lemmas.List.{at_drop_more, at_drop_all}
-use Rattle.feed.specs.Layouts.{symbol_fit}
+use Rattle.std.proofs.Common.{◌&&◌, refl, ◌∙◌, rules, tests}
+use Rattle.std.proofs.lemmas.Iterator.{YieldsList-from_slice}
+use Rattle.std.proofs.lemmas.Iterator.Search.{all_from_yields_List}
+use Rattle.std.proofs.lemmas.List.Recursion.{same_from_clauses}
+use Rattle.std.specs.List.{list_all}
+use Rattle.feed.specs.Layouts.{printable, symbol_fit}
 use Rattle.feed.proofs.decode.is_symbol.Goals as goal
 
-pub returns-then-not-is_printable : goal.returns-then-not-is_printable
-returns-then-not-is_printable c =
-    ap (λ b. b && symbol_fit (drop (c.loop-b.b-index + 1) c.args.symbol.now)) c.if-not-is_printable.ensures
-    ∙ sym (at_drop_more symbol_fit c.args.symbol.now c.loop-b.b-index 0 (search rules))
-    ∙ c.loop-b.invariant
-
-pub loop-b-preserved : goal.loop-b-preserved
-loop-b-preserved c =
-    ap (λ b. b && symbol_fit (drop (c.loop-b.b-index + 1) c.args.symbol.now)) c.if-not-is_printable.ensures
-    ∙ sym (at_drop_more symbol_fit c.args.symbol.now c.loop-b.b-index 0 (search rules))
-    ∙ c.loop-b.invariant
-
 pub returns : goal.returns
-returns c = sym (at_drop_all symbol_fit c.args.symbol.now c.loop-b.b-index (search rules)) ∙ c.loop-b.invariant
+returns c =
+    let bytes = c.args.symbol.now in
+    all_from_yields_List printable _ _ _ c.all.ensures.ran (YieldsList-from_slice bytes cc) (λ x b q k. search (rules, tests))
+    ∙ same_from_clauses (list_all printable) symbol_fit (λ b t. printable b && t) refl (λ _ _. refl) (λ _ _. refl) bytes

@@ -2,7 +2,7 @@ use Rattle.std.proofs.Common.{◌≡◌, ◌+◌, ◌-◌, ◌++◌, length, tak
 use Rattle.std.proofs.lemmas.List.{drop-drop}
 use borrow.Rule.Slice.PartMut.{put_mid}
 use Rattle.feed.specs.Sending.{laid}
-use Rattle.feed.proofs.encode.lay.Goals as goal
+use Rattle.feed.proofs.layout.lay.Goals as goal
 
 pub returns : goal.returns
 unfolding laid
