@@ -28,19 +28,15 @@ fn show(rt: &HostRuntime, number: u64, frame: &[u8]) -> anyhow::Result<()> {
         Ok(count) => println!(rt; "frame {number}: {length} bytes, {count} messages")?,
         Err(_) => println!(rt; "frame {number}: {length} bytes")?,
     }
-    let mut reader = Reader::new(frame);
-    // a header counts up to 255 messages, and the end comes behind them
-    for _ in 0..256 {
-        match reader.next() {
-            Ok(Some(message)) => {
+    for message in Reader::new(frame).messages() {
+        match message {
+            Ok(message) => {
                 let line = MessageLine(message);
                 println!(rt; "  {line}")?;
             }
-            Ok(None) => break,
             Err(fault) => {
                 let line = FaultLine(fault);
                 println!(rt; "  {line}")?;
-                break;
             }
         }
     }
