@@ -1,7 +1,7 @@
 // Turns a board of messages, one a line, into frames, one a line in hex digits.
 #![tactic(auto)]
 
-ghost use Rattle.std.specs.Prelude.{◌≡◌, List, [], vec_len, OnOk};
+ghost use Rattle.std.specs.Prelude.{◌≡◌, List, [], OnOk};
 ghost use Rattle.feed.specs.Sending.{Sent};
 ghost use Rattle.announce.specs.Sender.{Put};
 ghost use Rattle.announce.specs.declared.LineError.TheVariants.{Unread, Refused, Failed};
@@ -50,30 +50,29 @@ impl From<anyhow::Error> for LineError<'_> {
 // The frame in the making, and what was done so far.
 #[derive(Drop)]
 struct Sender {
-    buffer: Vec<u8>,
+    buffer: [u8; MAX_FRAME],
     // messages in the frame in the making
     pending: u64,
     messages: u64,
     frames: u64,
     bad: u64,
-    ghost long: { vec_len buffer ≡ 1500 },
 }
 
 impl Sender {
     // Begins the next frame.
     fn renew(&mut self)
-        ensures { Holds [] self.new.buffer.items }
+        ensures { Holds [] self.new.buffer }
     {
         self.pending = 0;
-        let _ = start(self.buffer.as_mut_slice());
+        let _ = start(&mut self.buffer);
     }
 
     // Prints the frame in the making, if it has a message, and begins the next.
     fn send(&mut self, rt: &HostRuntime) -> anyhow::Result<()>
-        ensures { OnOk result (Holds [] self.new.buffer.items) }
+        ensures { OnOk result (Holds [] self.new.buffer) }
     {
         if self.pending > 0 {
-            let hex = Hex(frame(self.buffer.as_slice()));
+            let hex = Hex(frame(&self.buffer));
             println!(rt; "{hex}")?;
             self.frames = self.frames.saturating_add(1);
         }
@@ -83,9 +82,9 @@ impl Sender {
 
     // Writes a message into the frame in the making.
     fn write<M: Encode>(&mut self, message: &M) -> Result<(), Refusal>
-        ensures { (ms : List Sent) → Holds ms self.old.buffer.items → Holds (sent_after (refused result) ms (M.Encode.sent message.now)) self.new.buffer.items }
+        ensures { (ms : List Sent) → Holds ms self.old.buffer → Holds (sent_after (refused result) ms (M.Encode.sent message.now)) self.new.buffer }
     {
-        add(self.buffer.as_mut_slice(), message)?;
+        add(&mut self.buffer, message)?;
         self.pending = self.pending.saturating_add(1);
         self.messages = self.messages.saturating_add(1);
         Ok(())
@@ -93,7 +92,7 @@ impl Sender {
 
     // Writes a message, into the next frame where this one has no room for it.
     fn put<'a, M: Encode>(&mut self, rt: &HostRuntime, message: &M) -> Result<(), LineError<'a>>
-        ensures { (ms : List Sent) → Holds ms self.old.buffer.items → Put result ms (M.Encode.sent message.now) self.new.buffer.items }
+        ensures { (ms : List Sent) → Holds ms self.old.buffer → Put result ms (M.Encode.sent message.now) self.new.buffer }
     {
         match self.write(message) {
             Err(Refusal::NoRoom) => {
@@ -137,7 +136,7 @@ impl Sender {
 fn run(rt: &HostRuntime) -> anyhow::Result<()> {
     let input = BufReader::new(rt.alloc(), rt.stdin())?;
     let mut sender = Sender {
-        buffer: vec![in rt.alloc(); 0; MAX_FRAME]?,
+        buffer: [0; MAX_FRAME],
         pending: 0,
         messages: 0,
         frames: 0,
