@@ -1,9 +1,10 @@
 // Turns a board of messages, one a line, into frames, one a line in hex digits.
 #![tactic(auto)]
 
-ghost use Rattle.std.specs.Prelude.{◌≡◌, List, [], IfOk, vec_len, OnOk};
+ghost use Rattle.std.specs.Prelude.{◌≡◌, List, [], OnOk};
 ghost use Rattle.feed.specs.Sending.{Sent};
-ghost use Rattle.announce.specs.Sender.{InThisOrNext};
+ghost use Rattle.announce.specs.Sender.{Put};
+ghost use Rattle.announce.specs.declared.LineError.TheVariants.{Unread, Refused, Failed};
 ghost use Rattle.writer.specs.Refusals.{refused};
 ghost use Rattle.writer.specs.Writing.{Holds, sent_after};
 
@@ -11,38 +12,68 @@ use board::Word;
 use entry::{Entry, Problem, parse};
 use feed::Encode;
 use std::io::{BufRead, BufReader};
-use text::push_hex;
+use text::Hex;
 use writer::{MAX_FRAME, Refusal, add, frame, start};
+
+// Why a line of the board is not done: it is not understood, its message is refused, or the program cannot go on.
+#[derive(Drop)]
+enum LineError<'a> {
+    Unread(Problem<'a>),
+    Refused(Refusal),
+    Failed(anyhow::Error),
+}
+
+impl<'a> From<Problem<'a>> for LineError<'a> {
+    ghost from_gives = { λ problem error. error ≡ Unread problem };
+
+    fn from(problem: Problem<'a>) -> Self {
+        LineError::Unread(problem)
+    }
+}
+
+impl From<Refusal> for LineError<'_> {
+    ghost from_gives = { λ refusal error. error ≡ Refused refusal };
+
+    fn from(refusal: Refusal) -> Self {
+        LineError::Refused(refusal)
+    }
+}
+
+impl From<anyhow::Error> for LineError<'_> {
+    ghost from_gives = { λ cause error. error ≡ Failed cause };
+
+    fn from(cause: anyhow::Error) -> Self {
+        LineError::Failed(cause)
+    }
+}
 
 // The frame in the making, and what was done so far.
 #[derive(Drop)]
 struct Sender {
-    buffer: Vec<u8>,
+    buffer: [u8; MAX_FRAME],
     // messages in the frame in the making
     pending: u64,
     messages: u64,
     frames: u64,
     bad: u64,
-    ghost long: { vec_len buffer ≡ 1500 },
 }
 
 impl Sender {
     // Begins the next frame.
     fn renew(&mut self)
-        ensures { Holds [] self.new.buffer.items }
+        ensures { Holds [] self.new.buffer }
     {
         self.pending = 0;
-        let _ = start(self.buffer.as_mut_slice());
+        let _ = start(&mut self.buffer);
     }
 
     // Prints the frame in the making, if it has a message, and begins the next.
     fn send(&mut self, rt: &HostRuntime) -> anyhow::Result<()>
-        ensures { OnOk result (Holds [] self.new.buffer.items) }
+        ensures { OnOk result (Holds [] self.new.buffer) }
     {
         if self.pending > 0 {
-            let mut text = String::new(rt.alloc());
-            push_hex(&mut text, frame(self.buffer.as_slice()))?;
-            println!(rt; "{text}")?;
+            let hex = Hex(frame(&self.buffer));
+            println!(rt; "{hex}")?;
             self.frames = self.frames.saturating_add(1);
         }
         self.renew();
@@ -51,78 +82,69 @@ impl Sender {
 
     // Writes a message into the frame in the making.
     fn write<M: Encode>(&mut self, message: &M) -> Result<(), Refusal>
-        ensures { (ms : List Sent) → Holds ms self.old.buffer.items → Holds (sent_after (refused result) ms (M.Encode.sent message.now)) self.new.buffer.items }
+        ensures { (ms : List Sent) → Holds ms self.old.buffer → Holds (sent_after (refused result) ms (M.Encode.sent message.now)) self.new.buffer }
     {
-        let answer = add(self.buffer.as_mut_slice(), message);
-        if answer.is_ok() {
-            self.pending = self.pending.saturating_add(1);
-            self.messages = self.messages.saturating_add(1);
-        }
-        answer
+        add(&mut self.buffer, message)?;
+        self.pending = self.pending.saturating_add(1);
+        self.messages = self.messages.saturating_add(1);
+        Ok(())
     }
 
-    // Writes a message, into the next frame where this one has no room for it; the refusal, if it was not written.
-    fn put<M: Encode>(&mut self, rt: &HostRuntime, message: &M) -> anyhow::Result<Option<Refusal>>
-        ensures { IfOk result (λ why. (ms : List Sent) → Holds ms self.old.buffer.items → InThisOrNext why ms (M.Encode.sent message.now) self.new.buffer.items) }
+    // Writes a message, into the next frame where this one has no room for it.
+    fn put<'a, M: Encode>(&mut self, rt: &HostRuntime, message: &M) -> Result<(), LineError<'a>>
+        ensures { (ms : List Sent) → Holds ms self.old.buffer → Put result ms (M.Encode.sent message.now) self.new.buffer }
     {
         match self.write(message) {
-            Ok(()) => Ok(None),
-            Err(Refusal::Unfit) => Ok(Some(Refusal::Unfit)),
             Err(Refusal::NoRoom) => {
                 self.send(rt)?;
-                Ok(self.write(message).err())
+                self.write(message)?;
             }
+            answer => answer?,
+        }
+        Ok(())
+    }
+
+    // Does what one line of the board says.
+    fn obey<'a>(&mut self, rt: &HostRuntime, line: &'a [u8]) -> Result<(), LineError<'a>> {
+        match parse(line)? {
+            None => Ok(()),
+            Some(Entry::Send) => Ok(self.send(rt)?),
+            Some(Entry::Update(update)) => self.put(rt, &update),
+            Some(Entry::Summary(summary)) => self.put(rt, &summary),
         }
     }
 
-    // One line of the board.
+    // Takes one line of the board, and says what is wrong with it.
     fn take(&mut self, rt: &HostRuntime, number: u64, line: &[u8]) -> anyhow::Result<()> {
-        let refused = match parse(line) {
-            Ok(None) => None,
-            Ok(Some(Entry::Send)) => {
-                self.send(rt)?;
-                None
-            }
-            Ok(Some(Entry::Update(update))) => self.put(rt, &update)?,
-            Ok(Some(Entry::Summary(summary))) => self.put(rt, &summary)?,
-            Err(Problem { word, trouble }) => {
-                self.bad = self.bad.saturating_add(1);
+        match self.obey(rt, line) {
+            Ok(()) => return Ok(()),
+            Err(LineError::Unread(Problem { word, trouble })) => {
                 let word = Word(word);
-                let reason = trouble.text();
-                eprintln!(rt; "line {number}: {word} {reason}")?;
-                None
+                eprintln!(rt; "line {number}: {word} {trouble}")?;
             }
-        };
-        if let Some(refusal) = refused {
-            self.bad = self.bad.saturating_add(1);
-            let code = refusal.number();
-            eprintln!(rt; "line {number}: the message is refused, {code}")?;
+            Err(LineError::Refused(refusal)) => {
+                let code = refusal.number();
+                eprintln!(rt; "line {number}: the message is refused, {code}")?;
+            }
+            Err(LineError::Failed(error)) => return Err(error),
         }
+        self.bad = self.bad.saturating_add(1);
         Ok(())
     }
 }
 
 fn run(rt: &HostRuntime) -> anyhow::Result<()> {
-    let mut input = BufReader::new(rt.alloc(), rt.stdin())?;
-    let mut line = Vec::new(rt.alloc());
+    let input = BufReader::new(rt.alloc(), rt.stdin())?;
     let mut sender = Sender {
-        buffer: vec![in rt.alloc(); 0; MAX_FRAME]?,
+        buffer: [0; MAX_FRAME],
         pending: 0,
         messages: 0,
         frames: 0,
         bad: 0,
     };
     sender.send(rt)?;
-    for number in 1..u64::MAX {
-        line.clear();
-        if input.read_until(b'\n', &mut line)? == 0 {
-            break;
-        }
-        let text = match line.as_slice() {
-            [text @ .., b'\n'] => text,
-            text => text,
-        };
-        sender.take(rt, number, text)?;
+    for (number, line) in (1..u64::MAX).zip(input.split(rt.alloc(), b'\n')) {
+        sender.take(rt, number, line?.as_slice())?;
     }
     sender.send(rt)?;
     let messages = sender.messages;

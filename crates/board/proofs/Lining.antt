@@ -1,6 +1,6 @@
 -- What the formats of the lines write, piece by piece, is the line.
 use Rattle.std.proofs.Common.{◌≡◌, ℕ, List, ◌++◌, length, codes, decimal, append_assoc}
-use Rattle.feed.specs.Faults.{number_of, layer_of}
+use Rattle.feed.specs.Faults.{number_of, layer_of, reason_text, layer_text}
 use Rattle.feed.specs.Layouts.{type_of}
 use Rattle.feed.specs.declared.fault.Fault.{Fault}
 use Rattle.feed.specs.declared.fault.Layer.{Layer}
@@ -8,7 +8,7 @@ use Rattle.feed.specs.declared.message.Summary.{Summary}
 use Rattle.feed.specs.declared.message.Update.{Update}
 use Rattle.text.specs.Price.{price_text}
 use Rattle.text.specs.Symbol.{trimmed_of}
-use Rattle.board.specs.Lines.{capital_pair, letter_text, word_text, condition_text, series_text, update_line, summary_line, unknown_line, reason_text, layer_text, fault_line}
+use Rattle.board.specs.Lines.{capital_pair, letter_text, word_text, condition_text, series_text, update_line, summary_line, unknown_line, fault_line}
 
 pub series : (symbol w : List ℕ) (a : ℕ) → w ≡ trimmed_of symbol → word_text w ++ (codes " " ++ letter_text a) ≡ series_text symbol a
 unfolding series_text
@@ -38,7 +38,7 @@ pub unknown_line_lem : (m : List ℕ) (k : ℕ) → k ≡ type_of m → codes "u
 unfolding unknown_line
 unknown_line_lem m k e = rw e
 
-pub fault_line_lem : (x : Fault) (n : ℕ) (r : List ℕ) (layer : Layer) (l : List ℕ) → n ≡ number_of x.reason → r ≡ reason_text x.reason → layer ≡ layer_of x.reason → l ≡ layer_text layer →
-    codes "fault " ++ (decimal n ++ (codes " (" ++ (r ++ (codes ") in " ++ (l ++ (codes " at byte " ++ decimal x.place)))))) ≡ fault_line x
+pub fault_line_lem : (x : Fault) (n : ℕ) (layer : Layer) → n ≡ number_of x.reason → layer ≡ layer_of x.reason →
+    codes "fault " ++ (decimal n ++ (codes " (" ++ (reason_text x.reason ++ (codes ") in " ++ (layer_text layer ++ (codes " at byte " ++ decimal x.place)))))) ≡ fault_line x
 unfolding fault_line
-fault_line_lem x n r layer l p q s t = rw (t, s, q, p) (simp append_assoc)
+fault_line_lem x n layer p q = rw (q, p) (simp append_assoc)

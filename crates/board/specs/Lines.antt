@@ -3,13 +3,9 @@ use Rattle.std.specs.Prelude.{ℕ, ◌+◌, ◌/◌, ◌%◌, cond, List, [], �
 use Rattle.std.specs.Int.{is_in_range}
 use Rattle.std.specs.Char.{is_ascii_graphic}
 use Rattle.std.specs.List.{flat_map}
-use Rattle.feed.specs.Faults.{number_of, layer_of}
+use Rattle.feed.specs.Faults.{number_of, layer_of, reason_text, layer_text}
 use Rattle.feed.specs.Layouts.{Notice, update, summary, unknown, type_of}
 use Rattle.feed.specs.declared.fault.Fault.{Fault}
-use Rattle.feed.specs.declared.fault.Layer.{Layer}
-use Rattle.feed.specs.declared.fault.Layer.TheVariants.{Frame, Message, Field}
-use Rattle.feed.specs.declared.fault.Reason.{Reason}
-use Rattle.feed.specs.declared.fault.Reason.TheVariants.{Header, Length, Short, Symbol, Letter, Leftover}
 use Rattle.feed.specs.declared.message.Summary.{Summary}
 use Rattle.feed.specs.declared.message.Update.{Update}
 use Rattle.text.specs.Price.{price_text}
@@ -63,19 +59,6 @@ abbrev pub message_line : Notice → List ℕ
 message_line (update u) = update_line u
 message_line (summary s) = summary_line s
 message_line (unknown m) = unknown_line m
-
-abbrev pub reason_text : Reason → List ℕ
-reason_text Header = codes "unfit header"
-reason_text Length = codes "unfit length"
-reason_text Short = codes "shorter than its layout"
-reason_text Symbol = codes "unfit symbol"
-reason_text Letter = codes "unfit auction letter"
-reason_text Leftover = codes "bytes left over"
-
-abbrev pub layer_text : Layer → List ℕ
-layer_text Frame = codes "frame"
-layer_text Message = codes "message"
-layer_text Field = codes "field"
 
 -- a fault: its number, its reason, the layer and the byte that it lies in
 unfoldable pub fault_line : Fault → List ℕ

@@ -3,7 +3,7 @@ ghost use Rattle.std.specs.Prelude.{Some};
 ghost use Rattle.feed.specs.Shown.{notice_of};
 ghost use Rattle.board.specs.Lines.{series_text, update_line, summary_line, unknown_line, message_line};
 
-use crate::word::{Condition, Letter, Pair, Word};
+use crate::word::{Condition, Letter, Word};
 use feed::{Message, Summary, Update, byte_at};
 use std::fmt;
 use text::{Price, trimmed};
@@ -83,7 +83,7 @@ impl fmt::Display for UnknownLine<'_> {
 
     fn fmt<W: fmt::Write>(&self, f: &mut fmt::Formatter<W>) -> fmt::Result {
         let kind = byte_at(self.0, 1);
-        write!(f, "unknown 0x{}, {} bytes", Pair(kind), self.0.len())
+        write!(f, "unknown 0x{kind:02X}, {} bytes", self.0.len())
     }
 }
 

@@ -1,8 +1,9 @@
 -- Lines of hex.
-use Rattle.std.specs.Prelude.{ℕ, cond, List, [], ◌∷◌, Some, None, Option}
-use Rattle.std.specs.Borrow.{Bor}
+use Rattle.std.specs.Prelude.{◌≡◌, ℕ, cond, List, [], ◌∷◌, Some, None, Ok, Err, Option, Result}
 use Rattle.std.specs.List.{flat_map}
 use Rattle.text.specs.Hex.{is_hex_pairs, hex_bytes}
+use Rattle.text.specs.declared.hex.HexError.{HexError}
+use Rattle.text.specs.declared.hex.HexError.TheVariants.{NotHex, Alloc}
 use Rattle.text.specs.Word.{uncommented_of, word_list}
 
 -- the words of a line, without its comment
@@ -18,7 +19,8 @@ bad_word (w ∷ ws) = cond (is_hex_pairs w) (bad_word ws) (Some w)
 abbrev pub bytes_in : List (List ℕ) → List ℕ
 bytes_in ws = flat_map hex_bytes ws
 
--- a word that was returned, by its bytes
-abbrev pub word_given : Option (Bor (List ℕ)) → Option (List ℕ)
-word_given None = None
-word_given (Some w) = Some w.now
+-- what comes of a line with that first bad word: it is the error, and without one only memory can be short
+abbrev pub MatchesBadWord : Option (List ℕ) → Result (Unit {0}) HexError → Type 0
+MatchesBadWord bad (Ok _) = bad ≡ None
+MatchesBadWord bad (Err (NotHex word)) = bad ≡ Some word.now
+MatchesBadWord bad (Err (Alloc _)) = Unit {0}

@@ -1,32 +1,24 @@
 // Shows frames, one a line in hex digits, as a readable board.
 #![tactic(auto)]
 
-ghost use Rattle.std.specs.Prelude.{◌≡◌, ◌++◌, IfNone, IfOk};
-ghost use Rattle.display.specs.Hexes.{words_in, bad_word, bytes_in, word_given};
+ghost use Rattle.std.specs.Prelude.{◌≡◌, ◌++◌, OnOk};
+ghost use Rattle.display.specs.Hexes.{words_in, bad_word, bytes_in, MatchesBadWord};
 
 use board::{FaultLine, MessageLine, Word};
 use feed::count_of;
 use reader::Reader;
-use std::alloc::AllocError;
 use std::io::{BufRead, BufReader};
-use text::{next_word, push_word, uncommented};
+use text::{HexError, Words, push_word, uncommented};
 
-// Puts the bytes that a line writes in hex digits behind `frame`; or gives the first word that is no hex.
-fn read_hex<'a>(frame: &mut Vec<u8>, line: &'a [u8]) -> Result<Option<&'a [u8]>, AllocError>
-    ensures bad { IfOk result (λ o. word_given o ≡ bad_word (words_in line.now)) }
-    ensures bytes { IfOk result (λ o. IfNone o (frame.new.items ≡ frame.old.items ++ bytes_in (words_in line.now))) }
+// Puts the bytes that a line writes in hex digits behind `frame`; the first word that is no hex is an error.
+fn read_hex<'a>(frame: &mut Vec<u8>, line: &'a [u8]) -> Result<(), HexError<'a>>
+    ensures bad { MatchesBadWord (bad_word (words_in line.now)) result }
+    ensures bytes { OnOk result (frame.new.items ≡ frame.old.items ++ bytes_in (words_in line.now)) }
 {
-    let mut rest = uncommented(line);
-    loop {
-        let (word, behind) = next_word(rest);
-        if word.is_empty() {
-            return Ok(None);
-        }
-        if !push_word(frame, word)? {
-            return Ok(Some(word));
-        }
-        rest = behind;
+    for word in Words(uncommented(line)) {
+        push_word(frame, word)?;
     }
+    Ok(())
 }
 
 // Prints a frame's line, and a line for each of its messages and for its fault.
@@ -36,19 +28,15 @@ fn show(rt: &HostRuntime, number: u64, frame: &[u8]) -> anyhow::Result<()> {
         Ok(count) => println!(rt; "frame {number}: {length} bytes, {count} messages")?,
         Err(_) => println!(rt; "frame {number}: {length} bytes")?,
     }
-    let mut reader = Reader::new(frame);
-    // a header counts up to 255 messages, and the end comes behind them
-    for _ in 0..256 {
-        match reader.next() {
-            Ok(Some(message)) => {
+    for message in Reader::new(frame).messages() {
+        match message {
+            Ok(message) => {
                 let line = MessageLine(message);
                 println!(rt; "  {line}")?;
             }
-            Ok(None) => break,
             Err(fault) => {
                 let line = FaultLine(fault);
                 println!(rt; "  {line}")?;
-                break;
             }
         }
     }
@@ -56,26 +44,23 @@ fn show(rt: &HostRuntime, number: u64, frame: &[u8]) -> anyhow::Result<()> {
 }
 
 fn run(rt: &HostRuntime) -> anyhow::Result<()> {
-    let mut input = BufReader::new(rt.alloc(), rt.stdin())?;
-    let mut line = Vec::new(rt.alloc());
+    let input = BufReader::new(rt.alloc(), rt.stdin())?;
     let mut frame = Vec::new(rt.alloc());
     let mut frames: u64 = 0;
-    for number in 1..u64::MAX {
-        line.clear();
+    for (number, line) in (1..u64::MAX).zip(input.split(rt.alloc(), b'\n')) {
+        let line = line?;
         frame.clear();
-        if input.read_until(b'\n', &mut line)? == 0 {
-            break;
-        }
-        let text = match line.as_slice() {
-            [text @ .., b'\n'] => text,
-            text => text,
-        };
-        if let Some(bad) = read_hex(&mut frame, text)? {
-            let word = Word(bad);
-            println!(rt; "line {number}: not understood: {word}")?;
-        } else if !frame.is_empty() {
-            frames = frames.saturating_add(1);
-            show(rt, frames, frame.as_slice())?;
+        match read_hex(&mut frame, line.as_slice()) {
+            Ok(()) if frame.is_empty() => {}
+            Ok(()) => {
+                frames = frames.saturating_add(1);
+                show(rt, frames, frame.as_slice())?;
+            }
+            Err(HexError::NotHex(word)) => {
+                let word = Word(word);
+                println!(rt; "line {number}: not understood: {word}")?;
+            }
+            Err(HexError::Alloc(error)) => return Err(error.into()),
         }
     }
     Ok(())

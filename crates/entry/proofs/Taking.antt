@@ -1,23 +1,21 @@
 -- Words taken from a line, and what is read on after them.
-use Rattle.std.proofs.Common.{◌≡◌, ℕ, true, false, eqb, List, [], ◌∷◌, length, IsErrAnd, Some, None, Ok, Err, Option, Result, ap, ◌∙◌, arith, Bor}
+use Rattle.std.proofs.Common.{◌≡◌, ℕ, List, [], ◌∷◌, IsErrAnd, MatchOption, Some, None, Ok, Err, Option, Result, ap, ◌∙◌, Bor}
 use Rattle.std.proofs.lemmas.Result.{err_from_is_err_and}
-use Rattle.std.proofs.lemmas.Bool.Decides.{nat_tests}
 use Rattle.std.specs.Option.{ok_or}
-use Rattle.text.specs.Word.{leading}
-use Rattle.entry.specs.Fields.{Complaint, complaint, Line, Reader, ◌then◌, word_in, fit, field_in}
-use Rattle.entry.specs.Shown.{complaint_of, taken}
+use Rattle.entry.specs.Fields.{Complaint, complaint, Line, Reader, ◌then◌, first_of, word_in, fit, field_in}
+use Rattle.entry.specs.Shown.{complaint_of, taken, word_taken}
 use Rattle.entry.specs.declared.problem.Problem.{Problem}
 use Rattle.entry.specs.declared.problem.Trouble.{Trouble}
+use Rattle.entry.specs.declared.problem.Trouble.TheVariants.{Missing}
 
--- a word is left
-pub led : (word : List ℕ) (all ws : List (List ℕ)) → all ≡ leading word ws → false ≡ eqb (length word) 0 → all ≡ word ∷ ws
-led [] all ws e h = absurd (let z : ◌≡◌ {A = ℕ} 0 1 = cc in omega arith)
-led (c ∷ cs) all ws e h = e
+-- the next of the words, and those behind it
+abbrev pub Next : Option (Bor (List ℕ)) → List (List ℕ) → List (List ℕ) → Type 0
+Next o old new = MatchOption o ((old ≡ []) × (new ≡ [])) (λ w. old ≡ w.now ∷ new)
 
--- no word is left
-pub unled : (word : List ℕ) (all ws : List (List ℕ)) → all ≡ leading word ws → true ≡ eqb (length word) 0 → all ≡ []
-unled [] all ws e h = e
-unled (c ∷ cs) all ws e h = absurd (grind (arith, nat_tests))
+-- a word that a line lacks is a problem of its verb
+pub next_taken : (verb : Bor (List ℕ)) (old new : List (List ℕ)) (o : Option (Bor (List ℕ))) (r : Result (Bor (List ℕ)) Problem) → Next o old new → r ≡ ok_or o (record { word = verb; trouble = Missing }) → word_taken r (record { verb = verb.now; words = new }) ≡ first_of verb.now old
+next_taken verb old new None r h e = rw (e, h.0)
+next_taken verb old new (Some w) r h e = rw (e, h)
 
 -- what the exit of a `?` returns
 taken_err : {A : Type 0} (r : Result A Problem) (p : Problem) (line : Line) → IsErrAnd r (λ y. y ≡ p) → taken r line ≡ Err (complaint_of p)

@@ -2,11 +2,9 @@
 use Rattle.std.specs.Prelude.{ℕ, List, [], ◌∷◌, Some, None, Ok, Err, Option, Result}
 use Rattle.text.specs.Word.{uncommented_of, word_list}
 use Rattle.entry.specs.Fields.{Complaint, complaint, Line, Reader, ◌then◌, symbol_in, letter_in, price_in, number_in, condition_in, end_in, done}
-use Rattle.entry.specs.Values.{verb_of}
+use Rattle.entry.specs.Values.{Verb, verb_of, Update as update, Summary as summary, Send as send}
 use Rattle.entry.specs.declared.board.Entry.{Entry}
 use Rattle.entry.specs.declared.board.Entry.TheVariants.{Update, Summary, Send}
-use Rattle.entry.specs.declared.fields.Verb.{Verb}
-use Rattle.entry.specs.declared.fields.Verb.TheVariants.{Update as update, Summary as summary, Send as send}
 use Rattle.entry.specs.declared.problem.Trouble.TheVariants.{Verb as Unknown}
 
 -- the fields of an update, and nothing behind them

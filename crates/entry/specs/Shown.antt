@@ -13,7 +13,7 @@ complaint_of p = complaint p.word.now p.trouble
 
 -- what is left of a line, as its words
 abbrev pub line_of : Words → Line
-line_of w = record { verb = w.verb.now; words = word_list w.rest.now }
+line_of w = record { verb = w.verb.now; words = word_list w.rest.0.now }
 
 -- what a field gave, and the line that it left
 abbrev pub taken : {A : Type 0} → Result A Problem → Line → Result (A × Line) Complaint

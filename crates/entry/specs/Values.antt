@@ -5,8 +5,12 @@ use Rattle.std.specs.Str.{bytes_eq}
 use Rattle.feed.specs.Layouts.{letter_fit}
 use Rattle.text.specs.Hex.{is_hex_digit, hex_digit}
 use Rattle.text.specs.Number.{whole_of}
-use Rattle.entry.specs.declared.fields.Verb.{Verb}
-use Rattle.entry.specs.declared.fields.Verb.TheVariants.{Update, Summary, Send}
+
+-- the verb that a line begins with
+pub data Verb : Type 0 where
+  Update : Verb
+  Summary : Verb
+  Send : Verb
 
 -- the verb of an entry
 abbrev pub verb_of : List ℕ → Option Verb

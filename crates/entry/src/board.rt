@@ -3,11 +3,10 @@ ghost use Rattle.std.specs.Prelude.{◌≡◌};
 ghost use Rattle.entry.specs.Entries.{update_in, summary_in, send_in, entry_of};
 ghost use Rattle.entry.specs.Shown.{line_of, taken, answered};
 
-use crate::fields::{Verb, verb_of};
 use crate::problem::{Problem, Trouble};
 use crate::words::Words;
 use feed::{Summary, Update};
-use text::{next_word, uncommented};
+use text::uncommented;
 
 // A message for the frame that is being filled, or the order to send it.
 #[derive(Clone, Copy)]
@@ -65,21 +64,21 @@ fn send<'a>(words: &mut Words<'a>) -> Result<Entry, Problem<'a>>
 pub fn parse(line: &[u8]) -> Result<Option<Entry>, Problem<'_>>
     ensures { answered result ≡ entry_of line.now }
 {
-    let (word, rest) = next_word(uncommented(line));
-    if word.is_empty() {
+    let mut rest = text::Words(uncommented(line));
+    let Some(verb) = rest.next() else {
         return Ok(None);
-    }
-    let Some(verb) = verb_of(word) else {
-        return Err(Problem {
-            word,
-            trouble: Trouble::Verb,
-        });
     };
-    let mut words = Words { verb: word, rest };
+    let mut words = Words { verb, rest };
     let entry = match verb {
-        Verb::Update => update(&mut words)?,
-        Verb::Summary => summary(&mut words)?,
-        Verb::Send => send(&mut words)?,
+        b"update" => update(&mut words)?,
+        b"summary" => summary(&mut words)?,
+        b"send" => send(&mut words)?,
+        _ => {
+            return Err(Problem {
+                word: verb,
+                trouble: Trouble::Verb,
+            });
+        }
     };
     Ok(Some(entry))
 }

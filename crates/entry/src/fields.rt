@@ -1,32 +1,9 @@
 // What one word writes.
 ghost use Rattle.std.specs.Prelude.{◌≡◌};
-ghost use Rattle.entry.specs.Values.{verb_of, letter_of, number_of, condition_of};
+ghost use Rattle.entry.specs.Values.{letter_of, number_of, condition_of};
 
 use feed::is_letter;
 use text::{hex_digit, whole};
-
-// The verb that a line begins with.
-#[derive(Clone, Copy)]
-pub enum Verb {
-    Update,
-    Summary,
-    Send,
-}
-
-// The verb that a word names.
-pub fn verb_of(word: &[u8]) -> Option<Verb>
-    ensures { result ≡ verb_of word.now }
-{
-    if word == b"update".as_slice() {
-        Some(Verb::Update)
-    } else if word == b"summary".as_slice() {
-        Some(Verb::Summary)
-    } else if word == b"send".as_slice() {
-        Some(Verb::Send)
-    } else {
-        None
-    }
-}
 
 // An auction letter.
 pub fn letter_of(word: &[u8]) -> Option<u8>

@@ -1,6 +1,8 @@
 // What can be wrong with a line.
-ghost use Rattle.std.specs.Prelude.{◌≡◌};
+ghost use Rattle.std.specs.Prelude.{Some};
 ghost use Rattle.entry.specs.Phrases.{phrase_of};
+
+use std::fmt;
 
 #[derive(Clone, Copy)]
 pub enum Trouble {
@@ -18,12 +20,12 @@ pub enum Trouble {
     Condition,
 }
 
-impl Trouble {
-    // What to say of the word that the trouble is with.
-    pub fn text(&self) -> &'static str
-        ensures { result.now ≡ phrase_of self.now }
-    {
-        match self {
+// What to say of the word that the trouble is with.
+impl fmt::Display for Trouble {
+    ghost output = { λ trouble. Some (phrase_of trouble) };
+
+    fn fmt<W: fmt::Write>(&self, f: &mut fmt::Formatter<W>) -> fmt::Result {
+        f.write_str(match self {
             Trouble::Verb => "is neither update, summary nor send",
             Trouble::Missing => "lacks words behind it",
             Trouble::Surplus => "is one word too many",
@@ -32,7 +34,7 @@ impl Trouble {
             Trouble::Price => "is not a price in dollars with at most four decimals",
             Trouble::Number => "is not a whole number up to 4294967295",
             Trouble::Condition => "is not a condition: one character, or 0xNN",
-        }
+        })
     }
 }
 

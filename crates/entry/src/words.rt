@@ -1,17 +1,17 @@
 // The words of a line, taken one by one.
-ghost use Rattle.std.specs.Prelude.{◌≡◌};
-ghost use Rattle.entry.specs.Fields.{word_in, symbol_in, letter_in, price_in, number_in, condition_in, end_in};
+ghost use Rattle.std.specs.Prelude.{◌≡◌, ℕ, List, Option};
+ghost use Rattle.entry.specs.Fields.{word_in, field_in, symbol_in, letter_in, price_in, number_in, condition_in, end_in};
 ghost use Rattle.entry.specs.Shown.{line_of, taken, word_taken};
 
 use crate::fields::{condition_of, letter_of, number_of};
 use crate::problem::{Problem, Trouble};
-use text::{dollars, next_word, padded};
+use text::{dollars, padded};
 
 // What is left of a line behind its verb.
 #[derive(Drop)]
 pub struct Words<'a> {
     pub verb: &'a [u8],
-    pub rest: &'a [u8],
+    pub rest: text::Words<'a>,
 }
 
 impl<'a> Words<'a> {
@@ -19,73 +19,67 @@ impl<'a> Words<'a> {
     fn word(&mut self) -> Result<&'a [u8], Problem<'a>>
         ensures { word_taken result (line_of self.new) ≡ word_in (line_of self.old) }
     {
-        let (word, rest) = next_word(self.rest);
-        if word.is_empty() {
-            return Err(Problem {
-                word: self.verb,
-                trouble: Trouble::Missing,
-            });
-        }
-        self.rest = rest;
-        Ok(word)
+        self.rest.next().ok_or(Problem {
+            word: self.verb,
+            trouble: Trouble::Missing,
+        })
     }
 
-    // The next word as a symbol.
+    // The next word as what `parse` reads it as; a word that it does not read is a problem.
+    fn field<T, F: FnOnce(&'a [u8]) -> Option<T> + Drop>(
+        &mut self,
+        parse: F,
+        trouble: Trouble,
+    ) -> Result<T, Problem<'a>>
+        requires { F.IsAlwaysCallable parse }
+        ensures { (read : List ℕ → Option T) → ((word : _) (o : _) → F.post parse word o → o ≡ read word.now) → taken result (line_of self.new) ≡ field_in read trouble (line_of self.old) }
+    {
+        let word = self.word()?;
+        parse(word).ok_or(Problem { word, trouble })
+    }
+
     pub fn symbol(&mut self) -> Result<[u8; 8], Problem<'a>>
         ensures { taken result (line_of self.new) ≡ symbol_in (line_of self.old) }
     {
-        let word = self.word()?;
-        let trouble = Trouble::Symbol;
-        padded(word).ok_or(Problem { word, trouble })
+        self.field(|word| padded(word), Trouble::Symbol)
     }
 
-    // The next word as an auction letter.
+    // An auction letter.
     pub fn letter(&mut self) -> Result<u8, Problem<'a>>
         ensures { taken result (line_of self.new) ≡ letter_in (line_of self.old) }
     {
-        let word = self.word()?;
-        let trouble = Trouble::Letter;
-        letter_of(word).ok_or(Problem { word, trouble })
+        self.field(letter_of, Trouble::Letter)
     }
 
-    // The next word as a price, in ten-thousandths of a dollar.
+    // In ten-thousandths of a dollar.
     pub fn price(&mut self) -> Result<u64, Problem<'a>>
         ensures { taken result (line_of self.new) ≡ price_in (line_of self.old) }
     {
-        let word = self.word()?;
-        let trouble = Trouble::Price;
-        dollars(word).ok_or(Problem { word, trouble })
+        self.field(|word| dollars(word), Trouble::Price)
     }
 
-    // The next word as a number of 32 bits.
     pub fn number(&mut self) -> Result<u32, Problem<'a>>
         ensures { taken result (line_of self.new) ≡ number_in (line_of self.old) }
     {
-        let word = self.word()?;
-        let trouble = Trouble::Number;
-        number_of(word).ok_or(Problem { word, trouble })
+        self.field(number_of, Trouble::Number)
     }
 
-    // The next word as a condition.
     pub fn condition(&mut self) -> Result<u8, Problem<'a>>
         ensures { taken result (line_of self.new) ≡ condition_in (line_of self.old) }
     {
-        let word = self.word()?;
-        let trouble = Trouble::Condition;
-        condition_of(word).ok_or(Problem { word, trouble })
+        self.field(condition_of, Trouble::Condition)
     }
 
     // Whether no word is left; one that is left is a problem.
-    pub fn end(&self) -> Result<(), Problem<'a>>
-        ensures { taken result (line_of self.now) ≡ end_in (line_of self.now) }
+    pub fn end(&mut self) -> Result<(), Problem<'a>>
+        ensures { taken result (line_of self.new) ≡ end_in (line_of self.old) }
     {
-        let (word, _) = next_word(self.rest);
-        if word.is_empty() {
-            return Ok(());
+        match self.rest.next() {
+            None => Ok(()),
+            Some(word) => Err(Problem {
+                word,
+                trouble: Trouble::Surplus,
+            }),
         }
-        Err(Problem {
-            word,
-            trouble: Trouble::Surplus,
-        })
     }
 }

@@ -1,6 +1,9 @@
--- A loop that appends digits reads the number that `whole_of` gives.
-use Rattle.std.proofs.Common.{◌≡◌, ℕ, ◌+◌, ◌-◌, ◌*◌, ◌^◌, ◌<◌, ◌≤◌, Bool, true, false, cond, ◌&&◌, ltb, List, [], ◌∷◌, length, get_or, drop, Some, None, Option, sym, refl, ap, ◌∙◌, arith}
-use Rattle.std.proofs.lemmas.List.{at_drop_more, at_drop_all}
+-- Digits that are appended one by one give the number that `whole_of` gives.
+use Rattle.std.proofs.Common.{◌≡◌, ℕ, ◌+◌, ◌-◌, ◌*◌, ◌^◌, ◌<◌, ◌≤◌, Bool, true, false, cond, ◌&&◌, ltb, List, [], ◌∷◌, ◌++◌, length, map, Some, None, Option, MatchOption, Bor, Iter, sym, refl, ap, ◌∙◌, arith}
+use Rattle.std.proofs.lemmas.List.{nil_from_length}
+use Rattle.std.specs.Iterator.{Yields}
+use Rattle.std.specs.List.{FoldsTo}
+use Rattle.std.specs.Slice.Iter.{iter_rest, iter_steps}
 use Rattle.std.proofs.lemmas.Bool.Decides.{nat_tests}
 use Rattle.std.proofs.lemmas.Bool.{ltb-false, le-ltb, lt-ltb}
 use Rattle.std.specs.Char.{is_ascii_digit}
@@ -40,27 +43,40 @@ pub whole_of_some : (ds : List ℕ) → 0 < length ds → whole_of ds ≡ read_o
 unfolding whole_of
 whole_of_some ds h = let e = lt-ltb 0 (length ds) h in rw e
 
--- the loop's steps over the word
-pub read_on_stops : (word : List ℕ) (i n : ℕ) → i < length word → 0 < length word → read_on n (drop i word) ≡ read_on 0 word → None ≡ appended_to n (get_or word i 0) → None ≡ whole_of word
-read_on_stops word i n h some e a =
-    let d = at_drop_more (read_on n) word i 0 h in
-    let s = read_on_none n (get_or word i 0) (drop (i + 1) word) (sym a) in
-    let w = whole_of_some word some in
-    sym (w ∙ sym e ∙ d ∙ s)
-
-pub read_on_goes : (word : List ℕ) (i n k : ℕ) → i < length word → read_on n (drop i word) ≡ read_on 0 word → Some k ≡ appended_to n (get_or word i 0) → read_on k (drop (i + 1) word) ≡ read_on 0 word
-read_on_goes word i n k h e a =
-    let d = at_drop_more (read_on n) word i 0 h in
-    let s = read_on_some n (get_or word i 0) k (drop (i + 1) word) (sym a) in
-    sym s ∙ sym d ∙ e
-
-pub read_on_ends : (word : List ℕ) (i n : ℕ) → length word ≤ i → 0 < length word → read_on n (drop i word) ≡ read_on 0 word → n < 2 ^ 64 → Some n ≡ whole_of word
-read_on_ends word i n h some e small =
-    let d = at_drop_all (read_on n) word i h in
-    let l = lt-ltb n (2 ^ 64) small in
-    let f : read_on n [] ≡ Some n = rw l in
-    sym (whole_of_some word some ∙ sym e ∙ d ∙ f)
-
 -- what was appended fits
 pub appended_fits : (n c k : ℕ) → Some k ≡ appended_to n c → k < 2 ^ 64
 appended_fits n c k e = grind (arith, nat_tests)
+
+-- each turn that goes on appends a digit
+pub reads_on : {F : Type 0} (turn : F × ℕ → Bor ℕ → F × ℕ → Type 0) → ((p : F × ℕ) (x : Bor ℕ) (q : F × ℕ) → turn p x q → Some q.1 ≡ appended_to p.1 x.now) → (xs : List (Bor ℕ)) (ds : List ℕ) (p q : F × ℕ) → FoldsTo turn p xs q → p.1 < 2 ^ 64 → (read_on p.1 (map (λ x. x.now) xs ++ ds) ≡ read_on q.1 ds) × (q.1 < 2 ^ 64)
+reads_on turn goes [] ds p q h small = let e : p.1 ≡ q.1 = ap (λ r. r.1) h in (ap (λ (n : ℕ). read_on n ds) e, omega (arith, e))
+reads_on turn goes (x ∷ xs) ds p q h small =
+    let e = goes p x h.0 h.1 in
+    let more = reads_on turn goes xs ds h.0 q h.2 (appended_fits p.1 x.now h.0.1 e) in
+    (read_on_some p.1 x.now h.0.1 (map (λ x. x.now) xs ++ ds) (sym e) ∙ more.0, more.1)
+
+-- the bytes that the calls gave, and those that are left
+rests : (xs : List (Bor ℕ)) (s t : Iter ℕ) → Yields iter_steps s xs t → iter_rest s ≡ map (λ x. x.now) xs ++ iter_rest t
+rests [] s t h = ap iter_rest h
+rests (x ∷ xs) s t h = h.1 ∙ ap (λ (l : List ℕ). x.now ∷ l) (rests xs h.0 t h.2)
+
+-- the last call found no byte, or one that cannot be appended
+ended : (a : ℕ) (r : Option ℕ) (o : Option (Bor ℕ)) (t u : Iter ℕ) (Stop : Bor ℕ → Type 0) → ((x : Bor ℕ) → Stop x → (None ≡ appended_to a x.now) × (r ≡ None)) → a < 2 ^ 64 → iter_steps t o u → MatchOption o (r ≡ Some a) Stop → r ≡ read_on a (iter_rest t)
+ended a r None t u Stop stops small h k =
+    let none : iter_rest t ≡ [] = nil_from_length (iter_rest t) h.0 in
+    let l = lt-ltb a (2 ^ 64) small in
+    let f : read_on a [] ≡ Some a = rw l in
+    k ∙ sym (ap (read_on a) none ∙ f)
+ended a r (Some x) t u Stop stops small h k =
+    let e = stops x k in
+    e.1 ∙ sym (ap (read_on a) h ∙ read_on_none a x.now (iter_rest u) (sym e.0))
+
+-- a fold over the bytes of a word, from its calls
+pub folded : (word : List ℕ) (r : Option ℕ) {F : Type 0} (turn : F × ℕ → Bor ℕ → F × ℕ → Type 0)
+    → ((p : F × ℕ) (x : Bor ℕ) (q : F × ℕ) → turn p x q → Some q.1 ≡ appended_to p.1 x.now)
+    → (xs : List (Bor ℕ)) (o : Option (Bor ℕ)) (s t u : Iter ℕ) (p q : F × ℕ) (Last : Bor ℕ → Type 0) → ((x : Bor ℕ) → Last x → (None ≡ appended_to q.1 x.now) × (r ≡ None))
+    → 0 < length word → iter_rest s ≡ word → p.1 ≡ 0 → Yields iter_steps s xs t → iter_steps t o u → FoldsTo turn p xs q → MatchOption o (r ≡ Some q.1) Last → r ≡ whole_of word
+folded word r turn goes xs o s t u p q Last stops some is zero gave step folds end =
+    let run = reads_on turn goes xs (iter_rest t) p q folds (omega (arith, zero)) in
+    let all : word ≡ map (λ x. x.now) xs ++ iter_rest t = sym is ∙ rests xs s t gave in
+    ended q.1 r o t u Last stops run.1 step end ∙ sym run.0 ∙ (λ i. read_on (zero i) (sym all i)) ∙ sym (whole_of_some word some)

@@ -1,5 +1,4 @@
 pub mod Folding
-pub mod Keeping
 pub mod Padding
 pub mod Pairing
 pub mod Pointing
@@ -8,4 +7,3 @@ pub mod Reading
 pub mod Returning
 pub mod Showing
 pub mod Wording
-pub mod Writing

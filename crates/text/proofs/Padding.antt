@@ -1,49 +1,31 @@
 -- Words with blanks behind them.
-use Rattle.std.proofs.Common.{◌≡◌, ℕ, zero, suc, ◌+◌, ◌-◌, ◌<◌, ◌≤◌, Bool, true, false, cond, ◌&&◌, eqb, ltb, List, [], ◌∷◌, ◌++◌, length, get_or, take, drop, set, replicate, Some, None, sym, refl, ap, ◌∙◌, append_assoc, arith}
-use Rattle.std.proofs.lemmas.List.{at_drop_more, at_drop_all, take_all, take_more, length-take-le, set_at}
-use Rattle.std.proofs.lemmas.Bool.{and_parts, lt-ltb, ne_eqb, cond-true}
+use Rattle.std.proofs.Common.{◌≡◌, ℕ, zero, suc, ◌+◌, ◌-◌, ◌<◌, ◌≤◌, Bool, true, false, cond, ◌&&◌, eqb, ltb, List, [], ◌∷◌, ◌++◌, length, get_or, take, drop, replicate, Some, None, sym, refl, ap, ◌∙◌, arith}
+use Rattle.std.proofs.lemmas.List.{take_all, take_more, drop-replicate}
+use Rattle.std.proofs.lemmas.Bool.{and_parts, lt-ltb, ne_eqb}
 use Rattle.std.proofs.lemmas.Bool.Decides.{nat_tests}
 use Rattle.std.specs.Char.{is_ascii_graphic}
+use Rattle.std.specs.List.{list_all}
 use Rattle.text.specs.Symbol.{all_graphic, is_symbol, padded_of, before_rest, trimmed_of, SymbolReadsBack}
 
--- the byte at i takes the place of the first blank
-pub put_more : (word symbol : List ℕ) (i : ℕ) → i < length word → i < 8 → symbol ≡ take i word ++ replicate (8 - i) 32 → set symbol i (get_or word i 0) ≡ take (i + 1) word ++ replicate (8 - (i + 1)) 32
-put_more word symbol i h k e =
-    let n : 8 - i ≡ suc (8 - (i + 1)) = omega arith in
-    let blanks : replicate (8 - i) 32 ≡ 32 ∷ replicate (8 - (i + 1)) 32 = ap (λ (m : ℕ). replicate m 32) n in
-    let old : symbol ≡ take i word ++ (32 ∷ replicate (8 - (i + 1)) 32) = e ∙ ap (λ (l : List ℕ). take i word ++ l) blanks in
-    let new = set_at (take i word) 32 (replicate (8 - (i + 1)) 32) (get_or word i 0) i (length-take-le i word (omega arith)) in
-    let more = take_more word i 0 h in
-    ap (λ (l : List ℕ). set l i (get_or word i 0)) old ∙ new ∙ sym (ap (λ (l : List ℕ). l ++ replicate (8 - (i + 1)) 32) more ∙ append_assoc (take i word) (get_or word i 0 ∷ []) (replicate (8 - (i + 1)) 32))
+-- one to eight bytes, each of which is graphic
+all_same : (word : List ℕ) → list_all is_ascii_graphic word ≡ all_graphic word
+all_same [] = refl
+all_same (c ∷ cs) = ap (λ (b : Bool). is_ascii_graphic c && b) (all_same cs)
 
-pub graphic_more : (word : List ℕ) (i : ℕ) → i < length word → is_ascii_graphic (get_or word i 0) ≡ true → all_graphic (drop (i + 1) word) ≡ all_graphic (drop i word)
-graphic_more word i h g =
-    let e : all_graphic (drop i word) ≡ (is_ascii_graphic (get_or word i 0) && all_graphic (drop (i + 1) word)) = at_drop_more all_graphic word i 0 h in
-    sym (e ∙ rw g)
-
-not_symbol : (word : List ℕ) → all_graphic word ≡ false → None ≡ padded_of word
-unfolding padded_of
-not_symbol word e = go (ltb 0 (length word) && ltb (length word) 9)
-  where
-    go : (s : Bool) → None ≡ cond (s && all_graphic word) (Some (word ++ replicate (8 - length word) 32)) None
-    go true = rw e
-    go false = refl
-
-pub padded_none : (word : List ℕ) (i : ℕ) → i < length word → is_ascii_graphic (get_or word i 0) ≡ false → all_graphic (drop i word) ≡ all_graphic word → None ≡ padded_of word
-padded_none word i h g e =
-    let f : all_graphic (drop i word) ≡ (is_ascii_graphic (get_or word i 0) && all_graphic (drop (i + 1) word)) = at_drop_more all_graphic word i 0 h in
-    not_symbol word (sym e ∙ f ∙ rw g)
-
-pub padded_some : (word symbol : List ℕ) (i : ℕ) → i ≡ length word → 0 < length word → length word ≤ 8 → symbol ≡ take i word ++ replicate (8 - i) 32 → all_graphic (drop i word) ≡ all_graphic word → Some symbol ≡ padded_of word
-unfolding padded_of
-padded_some word symbol i n some few e g =
-    let all : all_graphic word ≡ true = sym g ∙ at_drop_all all_graphic word i (omega arith) in
+pub symbol_all : (word : List ℕ) → 0 < length word → length word ≤ 8 → list_all is_ascii_graphic word ≡ is_symbol word
+symbol_all word some few =
     let l = lt-ltb 0 (length word) some in
     let m = lt-ltb (length word) 9 (omega arith) in
-    let is : is_symbol word ≡ true = rw (l, m, all) in
-    let front : take i word ≡ word = take_all i word (omega arith) in
-    let s : symbol ≡ word ++ replicate (8 - length word) 32 = e ∙ ap (λ (x : List ℕ). x ++ replicate (8 - i) 32) front ∙ ap (λ (k : ℕ). word ++ replicate (8 - k) 32) n in
-    ap (λ (x : List ℕ). Some x) s ∙ sym (cond-true (is_symbol word) (Some (word ++ replicate (8 - length word) 32)) None is)
+    rw (l, m) (all_same word)
+
+pub not_symbol : (word : List ℕ) → is_symbol word ≡ false → None ≡ padded_of word
+unfolding padded_of
+not_symbol word e = rw e
+
+-- the word takes the place of as many blanks
+pub padded_some : (word front : List ℕ) → is_symbol word ≡ true → front ≡ word → Some (front ++ drop (length word) (replicate 8 32)) ≡ padded_of word
+unfolding padded_of
+padded_some word front e f = rw (e, f) (ap (λ (blanks : List ℕ). Some (word ++ blanks)) (drop-replicate (length word) 8 32))
 
 -- the last byte of a list
 last_split : (xs : List ℕ) → 0 < length xs → xs ≡ take (length xs - 1) xs ++ (get_or xs (length xs - 1) 0 ∷ [])

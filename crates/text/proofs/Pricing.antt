@@ -88,7 +88,7 @@ unfolding dollars_of
 is_price_lem word n p e h = let l = lt-ltb (price_of word) (2 ^ 64) (omega (arith, e)) in rw (p, l) (ap (λ (x : ℕ). Some x) e)
 
 -- no point follows
-pub dollars_plain : (word : List ℕ) (n : ℕ) → Some n ≡ whole_of (before_point word) → length word ≤ length (before_point word) → n * 10000 < 2 ^ 64 → Some (n * 10000) ≡ dollars_of word
+dollars_plain : (word : List ℕ) (n : ℕ) → Some n ≡ whole_of (before_point word) → length word ≤ length (before_point word) → n * 10000 < 2 ^ 64 → Some (n * 10000) ≡ dollars_of word
 dollars_plain word n e h small =
     let p = numeral_from (before_point word) n e in
     let point : has_point word ≡ false = le-ltb (length (before_point word)) (length word) h in
@@ -96,6 +96,10 @@ dollars_plain word n e h small =
     let rest : ten_thousandths (after_point word) ≡ 0 = ap ten_thousandths after in
     let is : is_dollars word ≡ true = rw (p.0, point) in
     is_price_lem word (n * 10000) is (omega (arith, p.1, rest)) small
+
+pub dollars_only : (word : List ℕ) (n : ℕ) (r : Option ℕ) → Some n ≡ whole_of (before_point word) → length word ≤ length (before_point word) → SomeIff r (n * 10000 < 2 ^ 64) (n * 10000) → r ≡ dollars_of word
+dollars_only word n None e h k = dollars_large word n e k
+dollars_only word n (Some y) e h k = ap (λ (x : ℕ). Some x) k.1 ∙ dollars_plain word n e h k.0
 
 -- no decimals follow the point
 pub dollars_no_decimals : (word : List ℕ) → length (before_point word) < length word → None ≡ decimals_of (after_point word) → None ≡ dollars_of word

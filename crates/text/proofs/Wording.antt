@@ -1,24 +1,14 @@
 -- The first word of a line, and the words behind it.
-use Rattle.std.proofs.Common.{◌≡◌, ℕ, ◌+◌, ◌-◌, ◌<◌, ◌≤◌, Bool, true, false, cond, List, [], ◌∷◌, length, get_or, take, drop, sym, refl, ap, ◌∙◌, arith}
-use Rattle.std.proofs.lemmas.List.{at_drop_more, at_drop_all, take_rest}
+use Rattle.std.proofs.Common.{◌≡◌, ℕ, ◌+◌, ◌<◌, ◌≤◌, Bool, true, false, cond, not, ltb, List, [], ◌∷◌, length, take, drop, Some, None, Option, sym, refl, ap, ◌∙◌, arith, length-drop}
+use Rattle.std.proofs.lemmas.Bool.{ltb-true, ltb-false}
+use Rattle.std.proofs.lemmas.List.{take_all, drop_all}
+use Rattle.std.specs.List.{position, position_or_len}
+use Rattle.std.specs.Option.{unwrap_or}
 use Rattle.text.specs.Word.{is_blank, is_ink, before, onward, word_of, behind_word, on_first, pieces_of, inked, word_list, leading}
 
 -- how many bytes stand before the first that the test takes
 abbrev pub span : (ℕ → Bool) → List ℕ → ℕ
 span test cs = length (before test cs)
-
-pub span_here : (test : ℕ → Bool) (line : List ℕ) (i : ℕ) → i < length line → test (get_or line i 0) ≡ true → span test (drop i line) ≡ 0
-span_here test line i h e =
-    let s : span test (get_or line i 0 ∷ drop (i + 1) line) ≡ 0 = rw e in
-    at_drop_more (span test) line i 0 h ∙ s
-
-pub span_more : (test : ℕ → Bool) (line : List ℕ) (i : ℕ) → i < length line → test (get_or line i 0) ≡ false → span test (drop i line) ≡ span test (drop (i + 1) line) + 1
-span_more test line i h e =
-    let s : span test (get_or line i 0 ∷ drop (i + 1) line) ≡ span test (drop (i + 1) line) + 1 = rw e (omega arith) in
-    at_drop_more (span test) line i 0 h ∙ s
-
-pub span_end : (test : ℕ → Bool) (line : List ℕ) (i : ℕ) → length line ≤ i → span test (drop i line) ≡ 0
-span_end test line i h = at_drop_all (span test) line i h
 
 pub take-span : (test : ℕ → Bool) (line : List ℕ) → take (span test line) line ≡ before test line
 take-span test [] = refl
@@ -73,15 +63,75 @@ words_lead (c ∷ cs) = go (is_blank c) refl (words_lead cs)
         let first : word_list (c ∷ cs) ≡ inked (on_first c (pieces_of cs)) = rw e in
         first ∙ ap (λ (l : List (List ℕ)). inked (on_first c l)) (first_piece cs) ∙ ap (λ (l : List (List ℕ)). (c ∷ before is_blank cs) ∷ l) (words_behind cs) ∙ sym (λ i. leading (word i) (word_list (rest i)))
 
--- a leading blank is passed over
-pub skip_more : (rest : List ℕ) → 1 ≤ length rest → is_blank (get_or rest 0 0) ≡ true → onward is_ink (take (length rest - 1) (drop 1 rest)) ≡ onward is_ink rest
-skip_more [] h e = absurd (omega arith)
-skip_more (c ∷ cs) h e = ap (onward is_ink) (take_rest (c ∷ cs) 1) ∙ rw e
+-- where the first byte stands that the test takes
+span_is : (test : ℕ → Bool) (line : List ℕ) → position_or_len test line ≡ span test line
+span_is test [] = refl
+span_is test (c ∷ cs) = go (test c) (span_is test cs)
+  where
+    go : (t : Bool) → position_or_len test cs ≡ span test cs → cond (not t) (1 + position_or_len test cs) 0 ≡ length (cond t [] (c ∷ before test cs))
+    go true h = refl
+    go false h = omega (arith, h)
 
-pub skip_done : (rest : List ℕ) → 1 ≤ length rest → is_blank (get_or rest 0 0) ≡ false → rest ≡ onward is_ink rest
-skip_done [] h e = absurd (omega arith)
-skip_done (c ∷ cs) h e = rw e
+pub at_some : (test : ℕ → Bool) (line : List ℕ) (i : ℕ) → Some i ≡ position test line → (i ≡ span test line) × (i < length line)
+at_some test line i e = go (ltb (position_or_len test line) (length line)) refl e
+  where
+    go : (t : Bool) → ltb (position_or_len test line) (length line) ≡ t → Some i ≡ cond t (Some (position_or_len test line)) None → (i ≡ span test line) × (i < length line)
+    go true p f = let g : i ≡ position_or_len test line = cc in (g ∙ span_is test line, omega (arith, ltb-true (position_or_len test line) (length line) p, g))
+    go false p f = absurd (let z : ◌≡◌ {A = ℕ} 0 1 = cc in omega arith)
 
-pub skip_empty : (rest : List ℕ) → length rest < 1 → rest ≡ onward is_ink rest
-skip_empty [] h = refl
-skip_empty (c ∷ cs) h = absurd (omega arith)
+pub at_none : (test : ℕ → Bool) (line : List ℕ) → None ≡ position test line → length line ≤ span test line
+at_none test line e = go (ltb (position_or_len test line) (length line)) refl e
+  where
+    go : (t : Bool) → ltb (position_or_len test line) (length line) ≡ t → None ≡ cond t (Some (position_or_len test line)) None → length line ≤ span test line
+    go true p f = absurd (let z : ◌≡◌ {A = ℕ} 0 1 = cc in omega arith)
+    go false p f = omega (arith, ltb-false (position_or_len test line) (length line) p, span_is test line)
+
+-- all of the line, where no byte passes the test
+pub all_before : (test : ℕ → Bool) (line : List ℕ) → None ≡ position test line → line ≡ before test line
+all_before test line e = sym (take_all (span test line) line (at_none test line e)) ∙ take-span test line
+
+pub none_onward : (test : ℕ → Bool) (line : List ℕ) → None ≡ position test line → onward test line ≡ []
+none_onward test line e = sym (drop-span test line) ∙ drop_all (span test line) line (at_none test line e)
+
+-- the end of what stands before
+pub end_is : (test : ℕ → Bool) (line : List ℕ) → unwrap_or (position test line) (length line) ≡ span test line
+end_is test line = go (position test line) refl
+  where
+    go : (o : Option ℕ) → o ≡ position test line → unwrap_or o (length line) ≡ span test line
+    go (Some i) e = (at_some test line i e).0
+    go None e = ap length (all_before test line e)
+
+-- no ink, no word
+pub no_word : (line : List ℕ) → None ≡ position is_ink line → word_list line ≡ []
+no_word line e =
+    let text : onward is_ink line ≡ [] = none_onward is_ink line e in
+    let word : word_of line ≡ [] = ap (before is_blank) text in
+    words_lead line ∙ ap (λ (w : List ℕ). leading w (word_list (behind_word line))) word
+
+-- the first word begins at ink, so it is not empty
+inked_word : (line : List ℕ) (ws : List (List ℕ)) → 0 < length (onward is_ink line) → leading (word_of line) ws ≡ word_of line ∷ ws
+inked_word [] ws h = absurd (omega arith)
+inked_word (c ∷ cs) ws h = go (is_blank c) refl h (inked_word cs ws)
+  where
+    go : (t : Bool) → is_blank c ≡ t → 0 < length (onward is_ink (c ∷ cs)) → (0 < length (onward is_ink cs) → leading (word_of cs) ws ≡ word_of cs ∷ ws) → leading (word_of (c ∷ cs)) ws ≡ word_of (c ∷ cs) ∷ ws
+    go true e some more =
+        let text : onward is_ink (c ∷ cs) ≡ onward is_ink cs = rw e in
+        let left : 0 < length (onward is_ink cs) = omega (arith, ap length text) in
+        rw text (more left)
+    go false e some more = let text : onward is_ink (c ∷ cs) ≡ c ∷ cs = rw e in rw text (rw e)
+
+-- the first word and what stands behind it, as the code cuts them
+pub record Cut (line front behind : List ℕ) : Type 0 where
+  pub word : front ≡ word_of line
+  pub rest : behind ≡ behind_word line
+  pub words : word_list line ≡ front ∷ word_list behind
+
+pub cut : (line word rest : List ℕ) (start end : ℕ) → Some start ≡ position is_ink line → end ≡ unwrap_or (position is_blank (drop start line)) (length (drop start line)) → word ≡ take end (drop start line) → rest ≡ drop end (drop start line) → Cut line word rest
+cut line word rest start end e f p q =
+    let s = at_some is_ink line start e in
+    let text : drop start line ≡ onward is_ink line = back_is is_ink line start s.0 in
+    let stop : end ≡ span is_blank (drop start line) = f ∙ end_is is_blank (drop start line) in
+    let w : word ≡ word_of line = p ∙ front_is is_blank (drop start line) end stop ∙ ap (before is_blank) text in
+    let r : rest ≡ behind_word line = q ∙ back_is is_blank (drop start line) end stop ∙ ap (onward is_blank) text in
+    let some : 0 < length (onward is_ink line) = omega (arith, ap length text, length-drop start line, s.1) in
+    record { word = w; rest = r; words = words_lead line ∙ inked_word line (word_list (behind_word line)) some ∙ sym (λ i. w i ∷ word_list (r i)) }

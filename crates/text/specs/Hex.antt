@@ -1,9 +1,11 @@
 -- Bytes in hexadecimal digits.
-use Rattle.std.specs.Prelude.{◌≡◌, ℕ, ◌+◌, ◌-◌, ◌*◌, ◌/◌, ◌%◌, ◌<◌, Bool, true, false, cond, ◌&&◌, ◌||◌, List, [], ◌∷◌, ◌++◌, length, take, drop, Some, None, Option, nat_lt}
+use Rattle.std.specs.Prelude.{◌≡◌, ℕ, ◌+◌, ◌-◌, ◌*◌, ◌/◌, ◌%◌, ◌<◌, Bool, true, false, cond, ◌&&◌, ◌||◌, List, [], ◌∷◌, ◌++◌, drop, Some, None, Ok, Err, Option, Result, nat_lt}
 use Rattle.std.specs.Int.{is_in_range}
 use Rattle.std.specs.Char.{is_ascii_digit, digit_char}
 use Rattle.std.specs.List.{flat_map, AllByRecursion}
 use Rattle.text.specs.Word.{uncommented_of, word_list}
+use Rattle.text.specs.declared.hex.HexError.{HexError}
+use Rattle.text.specs.declared.hex.HexError.TheVariants.{NotHex, Alloc}
 
 -- a hex digit of either case
 abbrev pub is_hex_digit : ℕ → Bool
@@ -42,9 +44,11 @@ blank_pairs (b ∷ bs) = 32 ∷ (hex_pair b ++ blank_pairs bs)
 unfoldable pub hex_text : List ℕ → List ℕ
 hex_text bs = drop 1 (blank_pairs bs)
 
--- the new text begins with the old one
-abbrev pub Keeps : List ℕ → List ℕ → Type 0
-Keeps old new = take (length old) new ≡ old
+-- what comes of a word: pairs of hex digits alone are taken, where memory lasts, and any other word is given back
+abbrev pub HexAnswer : List ℕ → Result (Unit {0}) HexError → Type 0
+HexAnswer word (Ok _) = is_hex_pairs word ≡ true
+HexAnswer word (Err (NotHex other)) = (is_hex_pairs word ≡ false) × (other.now ≡ word)
+HexAnswer word (Err (Alloc _)) = is_hex_pairs word ≡ true
 
 -- a line of what is written, read as any line is: each of its words is hex pairs, and together they write the bytes again
 abbrev pub HexReadsBack : Type 0

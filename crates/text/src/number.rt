@@ -19,9 +19,5 @@ pub fn whole(word: &[u8]) -> Option<u64>
     if word.is_empty() {
         return None;
     }
-    let mut n: u64 = 0;
-    for b in word {
-        n = appended(n, *b)?;
-    }
-    Some(n)
+    word.iter().try_fold(0, |n, b| appended(n, *b))
 }

@@ -25,12 +25,12 @@ fn decimals(digits: &[u8]) -> Option<u64>
 pub fn dollars(word: &[u8]) -> Option<u64>
     ensures { result ≡ dollars_of word.now }
 {
-    let i = position(word, b'.');
-    let units = whole(&word[0..i])?.checked_mul(10_000)?;
-    if i == word.len() {
-        return Some(units);
+    match position(word, b'.') {
+        None => whole(word)?.checked_mul(10_000),
+        Some(point) => whole(&word[..point])?
+            .checked_mul(10_000)?
+            .checked_add(decimals(&word[point + 1..])?),
     }
-    units.checked_add(decimals(&word[i + 1..])?)
 }
 
 // A price in ten-thousandths of a dollar, shown in dollars with two decimals, or four where it needs them.
@@ -45,23 +45,14 @@ impl fmt::Display for Price {
         let cents = self.0 / 100 % 100;
         let rest = self.0 % 100;
         if rest == 0 {
-            write!(f, "{whole}.{}{}", cents / 10, cents % 10)
+            write!(f, "{whole}.{cents:02}")
         } else {
-            write!(
-                f,
-                "{whole}.{}{}{}{}",
-                cents / 10,
-                cents % 10,
-                rest / 10,
-                rest % 10
-            )
+            write!(f, "{whole}.{cents:02}{rest:02}")
         }
     }
 }
 
 // `dollars` reads back what a price shows.
-pub fn price_reads_back() -> u8
+pub fn price_reads_back()
     ensures { PriceReadsBack }
-{
-    0
-}
+{}

@@ -1,21 +1,23 @@
 // Symbols in eight bytes, with blanks behind them.
 ghost use Rattle.std.specs.Prelude.{◌≡◌};
-ghost use Rattle.text.specs.Symbol.{padded_of, trimmed_of, SymbolReadsBack};
+ghost use Rattle.text.specs.Symbol.{is_symbol, padded_of, trimmed_of, SymbolReadsBack};
+
+// Whether `word` is one to eight bytes, each from 0x21 to 0x7E.
+fn is_symbol(word: &[u8]) -> bool
+    ensures { result ≡ is_symbol word.now }
+{
+    !word.is_empty() && word.len() <= 8 && word.iter().all(|b| b.is_ascii_graphic())
+}
 
 // A word of one to eight bytes, each from 0x21 to 0x7E, with blanks behind it up to eight; none for another word.
 pub fn padded(word: &[u8]) -> Option<[u8; 8]>
     ensures { result ≡ padded_of word.now }
 {
-    if word.is_empty() || word.len() > 8 {
+    if !is_symbol(word) {
         return None;
     }
     let mut symbol = [b' '; 8];
-    for (i, b) in word.iter().enumerate() {
-        if !b.is_ascii_graphic() {
-            return None;
-        }
-        symbol[i] = *b;
-    }
+    symbol[..word.len()].copy_from_slice(word);
     Some(symbol)
 }
 
@@ -31,8 +33,6 @@ pub fn trimmed(symbol: &[u8]) -> &[u8]
 }
 
 // `trimmed` gives back the word that `padded` took.
-pub fn symbol_reads_back() -> u8
+pub fn symbol_reads_back()
     ensures { SymbolReadsBack }
-{
-    0
-}
+{}

@@ -1,69 +1,60 @@
 // Words of a line.
-ghost use Rattle.std.specs.Prelude.{◌≡◌, ◌≤◌, length, take};
-ghost use Rattle.text.specs.Word.{is_byte, is_blank, is_ink, before, onward, uncommented_of, word_of, behind_word, word_list, leading};
+ghost use Rattle.std.specs.Prelude.{◌≡◌, [], ◌∷◌, IfNone, IfSome};
+ghost use Rattle.std.specs.Iterator.{YieldsFirstRef, item_count};
+ghost use Rattle.std.specs.List.{position};
+ghost use Rattle.text.specs.Word.{is_byte, is_blank, uncommented_of, word_of, behind_word, word_list};
+
+// Where the first `mark` stands, if there is one.
+pub(crate) fn position(bytes: &[u8], mark: u8) -> Option<usize>
+    ensures { result ≡ position (is_byte mark) bytes.now }
+{
+    bytes.iter().position(|b| *b == mark)
+}
 
 // The bytes before the first `#`; all where there is none.
 pub fn uncommented(line: &[u8]) -> &[u8]
     ensures { result.now ≡ uncommented_of line.now }
 {
-    &line[0..position(line, b'#')]
-}
-
-// How many bytes stand before the first `mark`; all where there is none.
-pub(crate) fn position(bytes: &[u8], mark: u8) -> usize
-    ensures value { result ≡ length (before (is_byte mark) bytes.now) }
-    ensures front { take result bytes.now ≡ before (is_byte mark) bytes.now }
-    ensures bound { result ≤ length bytes.now }
-{
-    for (i, b) in bytes.iter().enumerate() {
-        if *b == mark {
-            return i;
-        }
+    match position(line, b'#') {
+        Some(comment) => &line[..comment],
+        None => line,
     }
-    bytes.len()
 }
 
 // Whether `b` stands between words: a space, a tab or a carriage return.
 fn is_blank(b: u8) -> bool
     ensures { result ≡ is_blank b }
 {
-    b == b' ' || b == b'\t' || b == b'\r'
+    matches!(b, b' ' | b'\t' | b'\r')
 }
 
-// The line without its leading blanks.
-fn unblanked(line: &[u8]) -> &[u8]
-    ensures { result.now ≡ onward is_ink line.now }
+// The first word of a line and what stands behind it, both parts of the line; none where no word is left.
+fn first_word(line: &[u8]) -> Option<(&[u8], &[u8])>
+    ensures none { IfNone result (word_list line.now ≡ []) }
+    ensures word { IfSome result (λ p. p.0.now ≡ word_of line.now) }
+    ensures rest { IfSome result (λ p. p.1.now ≡ behind_word line.now) }
+    ensures words { IfSome result (λ p. word_list line.now ≡ p.0.now ∷ word_list p.1.now) }
 {
-    let mut rest = line;
-    while let [b, tail @ ..] = rest {
-        if !is_blank(*b) {
-            return rest;
-        }
-        rest = tail;
+    let start = line.iter().position(|b| !is_blank(*b))?;
+    let text = &line[start..];
+    let end = text.iter().position(|b| is_blank(*b));
+    Some(text.split_at(end.unwrap_or(text.len())))
+}
+
+// The words of a line, from left to right. Words stand between blanks: spaces, tabs and carriage returns.
+#[derive(Clone, Copy, Debug)]
+pub struct Words<'a>(pub &'a [u8]);
+
+impl<'a> Iterator for Words<'a> {
+    type Item = &'a [u8];
+
+    ghost next_gives = { YieldsFirstRef (λ w. word_list w.0.now) };
+
+    ghost remaining = { item_count (λ w. word_list w.0.now) };
+
+    fn next(&mut self) -> Option<&'a [u8]> {
+        let (word, rest) = first_word(self.0)?;
+        self.0 = rest;
+        Some(word)
     }
-    rest
-}
-
-// How many bytes stand before the first blank; all where there is none.
-fn ink(line: &[u8]) -> usize
-    ensures value { result ≡ length (before is_blank line.now) }
-    ensures bound { result ≤ length line.now }
-{
-    for (i, b) in line.iter().enumerate() {
-        if is_blank(*b) {
-            return i;
-        }
-    }
-    line.len()
-}
-
-// The first word of a line and what stands behind it, both parts of the line. Words stand between blanks: spaces, tabs
-// and carriage returns. The word is empty where none is left.
-pub fn next_word(line: &[u8]) -> (&[u8], &[u8])
-    ensures word { result.0.now ≡ word_of line.now }
-    ensures rest { result.1.now ≡ behind_word line.now }
-    ensures words { word_list line.now ≡ leading result.0.now (word_list result.1.now) }
-{
-    let text = unblanked(line);
-    text.split_at(ink(text))
 }

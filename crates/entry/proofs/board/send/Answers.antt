@@ -8,7 +8,7 @@ use Rattle.entry.proofs.board.send.Goals as goal
 pub returns-in_err-end : goal.returns-in_err-end
 unfolding send_in
 returns-in_err-end c =
-    stops end_in _ _ c.from_residual.result c.in_err-end.field-0.0 (line_of c.args.words.now) c.from_residual.ensures.1 c.in_err-end.ensures
+    stops end_in _ _ c.from_residual.result c.in_err-end.field-0.0 (line_of c.end.new.self) c.from_residual.ensures.1 c.in_err-end.ensures
 
 pub returns : goal.returns
 unfolding send_in

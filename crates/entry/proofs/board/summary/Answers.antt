@@ -48,7 +48,7 @@ returns-in_err-end c =
     goes price_in _ _ c.in_ok-price.ensures (
     goes number_in _ _ c.in_ok-number.ensures (
     goes number_in _ _ c.in_ok-number-2.ensures (
-    stops end_in _ _ c.from_residual-in_err-end.result c.in_err-end.field-0.0 (line_of c.number-2.new.self) c.from_residual-in_err-end.ensures.1 c.in_err-end.ensures)))))
+    stops end_in _ _ c.from_residual-in_err-end.result c.in_err-end.field-0.0 (line_of c.end.new.self) c.from_residual-in_err-end.ensures.1 c.in_err-end.ensures)))))
 
 pub returns : goal.returns
 unfolding summary_in

@@ -1,40 +1,43 @@
-use Rattle.std.proofs.Common.{ℕ, ◌+◌, ◌^◌, ◌<◌, ◌≤◌, length, Some, ap, ◌∙◌, subst, arith}
+use Rattle.std.proofs.Common.{ℕ, ◌+◌, ◌^◌, ◌<◌, ap, ◌∙◌, subst}
 use Rattle.std.specs.Option.{SomeIff}
 use Rattle.text.specs.Number.{whole_of}
-use Rattle.text.specs.Price.{before_point, decimals_of}
-use Rattle.text.proofs.Pointing.{front_is, back_is}
-use Rattle.text.proofs.Pricing.{dollars_no_whole, dollars_large, dollars_plain, dollars_no_decimals, dollars_full}
+use Rattle.text.specs.Price.{decimals_of}
+use Rattle.text.specs.Word.{is_byte}
+use Rattle.text.proofs.Pricing.{dollars_no_whole, dollars_large, dollars_only, dollars_no_decimals, dollars_full}
+use Rattle.text.proofs.Pointing.{front_is, back_is, point_below}
+use Rattle.text.proofs.Wording.{at_none, all_before}
 use Rattle.text.proofs.price.dollars.Goals as goal
 
-pub returns-in_err-whole : goal.returns-in_err-whole
-returns-in_err-whole c =
-    c.from_residual.ensures
-    ∙ dollars_no_whole c.args.word.now (c.in_err-whole.ensures ∙ ap whole_of (front_is c.args.word.now c.position-i.result c.position-i.ensures.value))
+pub returns-in_err-whole-in-None : goal.returns-in_err-whole-in-None
+returns-in_err-whole-in-None c =
+    c.from_residual.ensures ∙ dollars_no_whole c.args.word.now (c.in_err-whole-in-None.ensures ∙ ap whole_of (all_before (is_byte 46) c.args.word.now c.in-None.ensures))
 
-pub returns-in_err-units : goal.returns-in_err-units
-returns-in_err-units c =
-    c.from_residual-in_err-units.ensures
-    ∙ dollars_large c.args.word.now c.in_ok-whole.field-0 (c.in_ok-whole.ensures ∙ ap whole_of (front_is c.args.word.now c.position-i.result c.position-i.ensures.value)) c.in_err-units.ensures
+pub returns-in_ok-whole-in-None : goal.returns-in_ok-whole-in-None
+returns-in_ok-whole-in-None c =
+    dollars_only c.args.word.now c.in_ok-whole-in-None.field-0 c.checked_mul.result
+    (c.in_ok-whole-in-None.ensures ∙ ap whole_of (all_before (is_byte 46) c.args.word.now c.in-None.ensures))
+    (at_none (is_byte 46) c.args.word.now c.in-None.ensures) c.checked_mul.ensures
 
-pub returns-then-i-word : goal.returns-then-i-word
-returns-then-i-word c =
-    let h = c.in_ok-units.ensures in
-    let l : length c.args.word.now ≤ length (before_point c.args.word.now) = omega (arith, c.if-i-word.true, c.position-i.ensures.value) in
-    ap (λ n. Some n) h.1
-    ∙ dollars_plain c.args.word.now c.in_ok-whole.field-0 (c.in_ok-whole.ensures ∙ ap whole_of (front_is c.args.word.now c.position-i.result c.position-i.ensures.value)) l h.0
+pub returns-in_err-whole-in-Some : goal.returns-in_err-whole-in-Some
+returns-in_err-whole-in-Some c =
+    c.from_residual-in_err-whole-in-Some.ensures ∙ dollars_no_whole c.args.word.now (c.in_err-whole-in-Some.ensures ∙ ap whole_of (front_is c.args.word.now c.in-Some.point c.in-Some.ensures))
 
-pub returns-in_err-decimals : goal.returns-in_err-decimals
-returns-in_err-decimals c =
-    let l : length (before_point c.args.word.now) < length c.args.word.now = omega (arith, c.if-i-word.false, c.position-i.ensures.value, c.position-i.ensures.bound) in
-    c.from_residual-in_err-decimals.ensures
-    ∙ dollars_no_decimals c.args.word.now l (c.in_err-decimals.ensures ∙ ap decimals_of (back_is c.args.word.now c.position-i.result c.position-i.ensures.value))
+pub returns-in_err-checked_mul-in-Some : goal.returns-in_err-checked_mul-in-Some
+returns-in_err-checked_mul-in-Some c =
+    c.from_residual-in_err-checked_mul-in-Some.ensures
+    ∙ dollars_large c.args.word.now c.in_ok-whole-in-Some.field-0 (c.in_ok-whole-in-Some.ensures ∙ ap whole_of (front_is c.args.word.now c.in-Some.point c.in-Some.ensures)) c.in_err-checked_mul-in-Some.ensures
 
-pub returns : goal.returns
-returns c =
-    let h = c.in_ok-units.ensures in
-    let l : length (before_point c.args.word.now) < length c.args.word.now = omega (arith, c.if-i-word.false, c.position-i.ensures.value, c.position-i.ensures.bound) in
-    let P : ℕ → Type 0 = λ n. SomeIff c.checked_add.result (n + c.in_ok-decimals.field-0 < 2 ^ 64) (n + c.in_ok-decimals.field-0) in
-    dollars_full c.args.word.now c.in_ok-whole.field-0 c.in_ok-decimals.field-0 c.checked_add.result
-    (c.in_ok-whole.ensures ∙ ap whole_of (front_is c.args.word.now c.position-i.result c.position-i.ensures.value)) l
-    (c.in_ok-decimals.ensures ∙ ap decimals_of (back_is c.args.word.now c.position-i.result c.position-i.ensures.value))
+pub returns-in_err-decimals-in-Some : goal.returns-in_err-decimals-in-Some
+returns-in_err-decimals-in-Some c =
+    c.from_residual-in_err-decimals-in-Some.ensures
+    ∙ dollars_no_decimals c.args.word.now (point_below c.args.word.now c.in-Some.point c.in-Some.ensures) (c.in_err-decimals-in-Some.ensures ∙ ap decimals_of (back_is c.args.word.now c.in-Some.point c.in-Some.ensures))
+
+pub returns-in_ok-decimals-in-Some : goal.returns-in_ok-decimals-in-Some
+returns-in_ok-decimals-in-Some c =
+    let h = c.in_ok-checked_mul-in-Some.ensures in
+    let P : ℕ → Type 0 = λ n. SomeIff c.checked_add.result (n + c.in_ok-decimals-in-Some.field-0 < 2 ^ 64) (n + c.in_ok-decimals-in-Some.field-0) in
+    dollars_full c.args.word.now c.in_ok-whole-in-Some.field-0 c.in_ok-decimals-in-Some.field-0 c.checked_add.result
+    (c.in_ok-whole-in-Some.ensures ∙ ap whole_of (front_is c.args.word.now c.in-Some.point c.in-Some.ensures))
+    (point_below c.args.word.now c.in-Some.point c.in-Some.ensures)
+    (c.in_ok-decimals-in-Some.ensures ∙ ap decimals_of (back_is c.args.word.now c.in-Some.point c.in-Some.ensures))
     (subst P h.1 c.checked_add.ensures)

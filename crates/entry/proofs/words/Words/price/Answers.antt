@@ -1,14 +1,8 @@
+use Rattle.std.proofs.Common.{rules}
 use Rattle.text.specs.Price.{dollars_of}
-use Rattle.entry.specs.Fields.{word_in, price_in}
-use Rattle.entry.specs.Shown.{line_of}
-use Rattle.entry.specs.declared.problem.Trouble.TheVariants.{Price}
-use Rattle.entry.proofs.Taking.{stops, fits}
+use Rattle.entry.specs.Fields.{price_in}
 use Rattle.entry.proofs.words.Words.price.Goals as goal
-
-pub returns-in_err-word : goal.returns-in_err-word
-unfolding price_in
-returns-in_err-word c = stops word_in _ _ c.from_residual.result c.in_err-word.field-0.0 (line_of c.word.new.self) c.from_residual.ensures.1 c.in_err-word.ensures
 
 pub returns : goal.returns
 unfolding price_in
-returns c = fits dollars_of Price _ c.in_ok-word.word c.dollars.result c.ok_or.result c.in_ok-word.ensures c.dollars.ensures c.ok_or.ensures.value
+returns c = c.field.ensures dollars_of (λ w o p. search rules)

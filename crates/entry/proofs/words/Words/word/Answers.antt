@@ -1,15 +1,8 @@
-use Rattle.std.proofs.Common.{sym, ap}
 use Rattle.text.specs.Word.{word_list}
-use Rattle.entry.specs.Fields.{word_in, first_of}
-use Rattle.entry.proofs.Taking.{led, unled}
+use Rattle.entry.specs.Fields.{word_in}
+use Rattle.entry.proofs.Taking.{next_taken}
 use Rattle.entry.proofs.words.Words.word.Goals as goal
-
-pub returns-then-is_empty : goal.returns-then-is_empty
-unfolding word_in
-returns-then-is_empty c =
-    sym (ap (first_of c.args.self.now.verb.now) (unled c.next_word.result.0.now (word_list c.args.self.now.rest.now) (word_list c.next_word.result.1.now) c.next_word.ensures.words c.if-is_empty.ensures))
 
 pub returns : goal.returns
 unfolding word_in
-returns c =
-    sym (ap (first_of c.args.self.now.verb.now) (led c.next_word.result.0.now (word_list c.args.self.now.rest.now) (word_list c.next_word.result.1.now) c.next_word.ensures.words c.if-is_empty.ensures))
+returns c = next_taken c.args.self.now.verb (word_list c.args.self.now.rest.0.now) (word_list c.next.new.self.0.now) c.next.result c.ok_or.result c.next.ensures.steps c.ok_or.ensures.value
