@@ -182,6 +182,7 @@ impl<'a> Call<'a> {
 
 // Reads one message of a frame into the first places of `numbers`.
 #[unsafe(no_mangle)]
+#[tactic(auto, using(crate::proofs::Onward::starts, crate::proofs::Onward::goes_on))]
 pub extern "C" fn opening_read(frame: &[u8], place: u64, left: u8, numbers: &mut [u64]) -> u32
     ensures answer { result ≡ kind_for (told frame.entry place left) numbers.old }
     ensures after { numbers.new ≡ places_after (told frame.entry place left) numbers.old }

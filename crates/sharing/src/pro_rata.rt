@@ -13,6 +13,7 @@ use crate::rule::SharingRule;
 pub struct ProRata;
 
 // How many contracts are claimed.
+#[tactic(auto, using(crate::proofs::Enough::sum_of_sizes))]
 fn claimed(claims: &[Claim]) -> u64
     requires { length claims.now ≤ 512 }
     ensures { result ≡ sum (sizes claims.now) }
@@ -42,6 +43,7 @@ impl<'a> Scarce<'a> {
     }
 
     // How many of the contracts are given where each part is rounded down.
+    #[tactic(auto, using(crate::proofs::Enough::sum_of_floors))]
     fn rounded_down(&self) -> u64
         ensures { result ≡ sum (floors self.now.n self.now.whole (sizes self.now.claims.now)) }
     {
@@ -80,6 +82,7 @@ impl SharingRule for ProRata {
 
     ghost fair = { λ _ n claims. pro_rata_shared n (sizes claims) };
 
+    #[tactic(auto, using(crate::proofs::Enough::same_places, crate::proofs::Enough::fit))]
     fn share(&self, n: u64, claims: &[Claim], shares: &mut [u32]) -> Result<(), Refusal> {
         check(claims, shares.len())?;
         let whole = claimed(claims);
