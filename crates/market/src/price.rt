@@ -6,7 +6,7 @@ ghost use Rattle.market.specs.Market.{is_price, side_fit};
 pub fn is_price(p: u64) -> bool
     ensures { result ≡ is_price p }
 {
-    p % 100 == 0 && 100 <= p && p <= 500_000_000
+    p % 100 == 0 && (100..=500_000_000).contains(&p)
 }
 
 // Whether a side lacks or is a market price.
