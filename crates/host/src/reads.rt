@@ -12,6 +12,11 @@ use reader::Reader;
 // How many numbers a call is told.
 const NUMBERS: usize = 18;
 
+// The places of a fault's number and layer.
+const FAULT_NUMBER: usize = 16;
+
+const FAULT_LAYER: usize = 17;
+
 // What a call finds, by the numbers that C knows.
 #[derive(Clone, Copy)]
 enum Kind {
@@ -73,8 +78,8 @@ fn fault_numbers(at: Stand, fault: &Fault) -> [u64; NUMBERS]
     ensures { result ≡ bare_numbers at (number_of fault.now.reason) (layer_number (layer_of fault.now.reason)) }
 {
     let mut numbers = at.numbers(&[]);
-    numbers[16] = u64::from(fault.number());
-    numbers[17] = layer_number(fault.layer());
+    numbers[FAULT_NUMBER] = u64::from(fault.number());
+    numbers[FAULT_LAYER] = layer_number(fault.layer());
     numbers
 }
 
