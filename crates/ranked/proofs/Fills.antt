@@ -1,11 +1,12 @@
 -- Fills from a place on, share by share, and that they keep the order of rank.
-use Rattle.std.proofs.Common.{◌≡◌, ℕ, zero, suc, ◌<◌, ◌≤◌, min, Bool, not, ◌&&◌, List, [], ◌∷◌, ◌++◌, length, get_or, take, drop, set, sym, refl, ap, ◌∙◌, inl, inr, arith}
+use Rattle.std.proofs.Common.{◌≡◌, ℕ, zero, suc, ◌-◌, ◌<◌, ◌≤◌, Bool, not, ◌&&◌, List, [], ◌∷◌, ◌++◌, length, get_or, take, drop, set, sym, refl, ap, ◌∙◌, arith}
 use borrow.Rule.Slice.PartMut.{put_mid}
-use Rattle.std.specs.List.{list_all}
-use Rattle.std.proofs.lemmas.List.{take_all, drop_all, take-append-drop}
-use Rattle.std.proofs.lemmas.Bool.{cases_lt}
-use Rattle.ranked.specs.Level.{fills, filled_from}
+use Rattle.std.specs.List.{list_all, between}
+use Rattle.std.proofs.lemmas.List.{take-append-drop, take_at}
+use Rattle.std.proofs.lemmas.List.Edits.{length-between}
+use Rattle.ranked.specs.Level.{level_at, fills, filled_from, filled_level}
 use Rattle.ranked.specs.Order.{in_rank}
+use Rattle.ranked.proofs.Levels.{level_none}
 
 pub fills_none : {X : Type 0} (f : X → ℕ → X) (xs : List X) → fills f xs [] ≡ xs
 fills_none f [] = refl
@@ -34,34 +35,33 @@ fills_front f [] (suc k) ns = refl
 fills_front f (x ∷ xs) (suc k) [] = ap (λ ys. x ∷ ys) (sym (take-append-drop k xs))
 fills_front f (x ∷ xs) (suc k) (n ∷ ns) = ap (λ ys. f x n ∷ ys) (fills_front f xs k ns)
 
--- a place past the end is the end
-within_take : {X : Type 0} (at : ℕ) (xs : List X) → take (min at (length xs)) xs ≡ take at xs
-within_take at xs =
-    elim (cases_lt at (length xs)) [
-      | inl lt ↦ ap (λ i. take i xs) (omega arith)
-      | inr le ↦ take_all (min at (length xs)) xs (omega arith) ∙ sym (take_all at xs le)
-    ]
-
-within_drop : {X : Type 0} (at : ℕ) (xs : List X) → drop (min at (length xs)) xs ≡ drop at xs
-within_drop at xs =
-    elim (cases_lt at (length xs)) [
-      | inl lt ↦ ap (λ i. drop i xs) (omega arith)
-      | inr le ↦ drop_all (min at (length xs)) xs (omega arith) ∙ sym (drop_all at xs le)
-    ]
-
 -- a part from a place on, filled
-pub filled_part :
-    {X : Type 0} (f : X → ℕ → X) (at start size : ℕ) (xs : List X) (ns : List ℕ) (p : List X) → start ≡ min at (length xs) →
-    p ≡ fills f (take size (drop start xs)) ns → put_mid start size xs p ≡ filled_from f at (take size ns) xs
-filled_part f at start size xs ns p s e =
-    let t : take start xs ≡ take at xs = ap (λ i. take i xs) s ∙ within_take at xs in
-    let d : drop start xs ≡ drop at xs = ap (λ i. drop i xs) s ∙ within_drop at xs in
-    (λ i. t i ++ ((e ∙ ap (λ ys. fills f (take size ys) ns) d) i ++ drop size (d i))) ∙ ap (λ ys. take at xs ++ ys) (sym (fills_front f (drop at xs) size ns))
+filled_part : {X : Type 0} (f : X → ℕ → X) (at size : ℕ) (xs : List X) (ns : List ℕ) (p : List X) → p ≡ fills f (take size (drop at xs)) ns → put_mid at size xs p ≡ filled_from f at (take size ns) xs
+filled_part f at size xs ns p e = ap (λ ys. take at xs ++ (ys ++ drop size (drop at xs))) e ∙ ap (λ ys. take at xs ++ ys) (sym (fills_front f (drop at xs) size ns))
 
-pub length-fills : {X : Type 0} (f : X → ℕ → X) (xs : List X) (ns : List ℕ) → length (fills f xs ns) ≡ length xs
+-- past the end nothing is filled
+pub filled_past : {X : Type 0} (b : X → X → Bool) (f : X → ℕ → X) (at : ℕ) (xs : List X) (ns : List ℕ) → length xs ≤ at → filled_level b f at ns xs ≡ xs
+filled_past b f at xs ns le =
+    ap (λ l. filled_from f at (take (length l) ns) xs) (sym (level_none b xs at le)) ∙ ap (λ ys. take at xs ++ ys) (fills_none f (drop at xs)) ∙ take-append-drop at xs
+
+length-fills : {X : Type 0} (f : X → ℕ → X) (xs : List X) (ns : List ℕ) → length (fills f xs ns) ≡ length xs
 length-fills f [] ns = refl
 length-fills f (x ∷ xs) [] = refl
 length-fills f (x ∷ xs) (n ∷ ns) = ap suc (length-fills f xs ns)
+
+length-filled : {X : Type 0} (f : X → ℕ → X) (at : ℕ) (ns : List ℕ) (xs : List X) → length (filled_from f at ns xs) ≡ length xs
+length-filled f zero ns xs = length-fills f xs ns
+length-filled f (suc at) ns [] = length-fills f [] ns
+length-filled f (suc at) ns (x ∷ xs) = ap suc (length-filled f at ns xs)
+
+-- a list whose level from a place on is filled, before the places behind it
+pub filled_front :
+    {X : Type 0} (b : X → X → Bool) (f : X → ℕ → X) (at end n : ℕ) (xs rest : List X) (ns : List ℕ) (p : List X) → length xs ≡ n → end ≤ n →
+    between at end xs ≡ level_at b at xs → p ≡ fills f (between at end xs) ns → take n (put_mid at (end - at) xs p ++ rest) ≡ filled_level b f at ns xs
+filled_front b f at end n xs rest ns p l le part e =
+    let size : end - at ≡ length (level_at b at xs) = omega (arith, ap length part, length-between xs at end (omega arith)) in
+    let q : put_mid at (end - at) xs p ≡ filled_level b f at ns xs = filled_part f at (end - at) xs ns p e ∙ ap (λ k. filled_from f at (take k ns) xs) size in
+    take_at (put_mid at (end - at) xs p) rest n (ap length q ∙ length-filled f at (take (length (level_at b at xs)) ns) xs ∙ l) ∙ q
 
 module _ {X : Type 0} (b : X → X → Bool) (f : X → ℕ → X) (keeps : (x y : X) (n : ℕ) → (b (f x n) y ≡ b x y) × (b y (f x n) ≡ b y x)) where
   pass_fills : (z : X) (xs : List X) (ns : List ℕ) → list_all (λ y. not (b y z)) (fills f xs ns) ≡ list_all (λ y. not (b y z)) xs

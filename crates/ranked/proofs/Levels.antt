@@ -1,6 +1,6 @@
 -- The levels of a list, entry by entry, and that in the order of rank a level is all that is level.
-use Rattle.std.proofs.Common.{◌≡◌, ℕ, zero, suc, ◌+◌, ◌<◌, ◌≤◌, Bool, true, false, cond, not, List, [], ◌∷◌, ◌++◌, length, get_or, take, drop, filter, Some, sym, refl, ap, ◌∙◌, ⊎_elim, one-add, arith}
-use Rattle.std.specs.List.{list_all, prefix_len, slice_get, sum_by}
+use Rattle.std.proofs.Common.{◌≡◌, ℕ, zero, suc, ◌+◌, ◌-◌, ◌<◌, ◌≤◌, Bool, true, false, cond, not, List, [], ◌∷◌, ◌++◌, length, get_or, take, drop, filter, Some, sym, refl, ap, ◌∙◌, ⊎_elim, one-add, arith}
+use Rattle.std.specs.List.{list_all, prefix_len, slice_get, sum_by, between}
 use Rattle.std.specs.List.Sorted.{IsPartitionedBy, IsPartitionPoint}
 use Rattle.std.proofs.lemmas.List.{at_drop_all}
 use Rattle.std.proofs.lemmas.List.Sums.{prefix_len_is, sum_by-cons}
@@ -127,17 +127,31 @@ module _ {X : Type 0} (b : X → X → Bool) (apart : (x y : X) → b x y ≡ tr
   alone : (x : X) → b x x ≡ false
   alone x = ⊎_elim (λ t. apart x x t) (λ f. f) (cases_Bool (b x x))
 
-  -- the first level ends where x would go
-  level_ends : (x : X) (xs : List X) → take (prefix_len (λ y. not (b x y)) (x ∷ xs)) (x ∷ xs) ≡ first_level b (x ∷ xs)
-  level_ends x xs =
-      ap (λ k. take k (x ∷ xs)) (cond-true (not (b x x)) (1 + prefix_len (λ y. not (b x y)) xs) 0 (not_from_false (b x x) (alone x)) ∙ one-add (prefix_len (λ y. not (b x y)) xs))
-      ∙ ap (λ l. x ∷ l) (front_not_worse b x xs)
+  -- what stands before a place is not worse than what stands there
+  not_beaten : (x y : X) (ys : List X) (at : ℕ) → list_all (λ z. not (b z y)) ys ≡ true → Some x ≡ slice_get ys at → not (b x y) ≡ true
+  not_beaten x y [] at h e = absurd cc
+  not_beaten x y (z ∷ zs) zero h e = let q : z ≡ x = cc in ap (λ v. not (b v y)) (sym q) ∙ (and_parts (not (b z y)) (list_all (λ w. not (b w y)) zs) h).0
+  not_beaten x y (z ∷ zs) (suc at) h e = not_beaten x y zs at (and_parts (not (b z y)) (list_all (λ w. not (b w y)) zs) h).1 e
 
-  pub level_is : (at : ℕ) (x : X) (xs : List X) → Some x ≡ slice_get xs at → take (prefix_len (λ y. not (b x y)) (drop at xs)) (drop at xs) ≡ level_at b at xs
-  level_is zero x [] e = absurd cc
-  level_is zero x (y ∷ ys) e = let q : x ≡ y = cc in ap (λ v. take (prefix_len (λ z. not (b v z)) (y ∷ ys)) (y ∷ ys)) q ∙ level_ends y ys
-  level_is (suc at) x [] e = absurd cc
-  level_is (suc at) x (y ∷ ys) e = level_is at x ys e
+  -- the level of what stands at a place ends where another such entry would go
+  pub level_is :
+      (at : ℕ) (x : X) (xs : List X) → in_rank b xs ≡ true → Some x ≡ slice_get xs at →
+      (at < prefix_len (λ y. not (b x y)) xs) × (between at (prefix_len (λ y. not (b x y)) xs) xs ≡ level_at b at xs)
+  level_is zero x [] h e = absurd cc
+  level_is zero x (y ∷ ys) h e =
+      let k = prefix_len (λ z. not (b x z)) ys in
+      let q : x ≡ y = cc in
+      let n : prefix_len (λ z. not (b x z)) (y ∷ ys) ≡ 1 + k = cond-true (not (b x y)) (1 + k) 0 (not_from_false (b x y) (ap (b x) (sym q) ∙ alone x)) in
+      let m : prefix_len (λ z. not (b x z)) (y ∷ ys) - 0 ≡ suc k = omega (arith, n) in
+      (omega (arith, n), ap (λ j. take j (y ∷ ys)) m ∙ ap (λ l. y ∷ l) (front_not_worse b x ys) ∙ ap (λ v. y ∷ not_worse b v ys) q)
+  level_is (suc at) x [] h e = absurd cc
+  level_is (suc at) x (y ∷ ys) h e =
+      let k = prefix_len (λ z. not (b x z)) ys in
+      let p = and_parts (list_all (λ z. not (b z y)) ys) (in_rank b ys) h in
+      let n : prefix_len (λ z. not (b x z)) (y ∷ ys) ≡ 1 + k = cond-true (not (b x y)) (1 + k) 0 (not_beaten x y ys at p.0 e) in
+      let r = level_is at x ys p.1 e in
+      let m : prefix_len (λ z. not (b x z)) (y ∷ ys) - suc at ≡ k - at = omega (arith, n) in
+      (omega (arith, n, r.0), ap (λ j. take j (drop at ys)) m ∙ r.1)
 
   pub level_whole : (at : ℕ) (xs : List X) → in_rank b xs ≡ true → level_at b at xs ≡ level_with b at xs
   level_whole zero [] h = refl

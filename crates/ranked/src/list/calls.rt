@@ -1,21 +1,12 @@
 // What a ranked list is asked and told.
 ghost use Rattle.std.specs.Prelude.{◌≡◌, ◌+◌, ◌-◌, ◌<◌, ◌≤◌, min, true, [], length, take, if◌then◌else◌, Ok, Err, nat_lt, not};
 ghost use Rattle.std.specs.List.{remove, insert, slice_get, prefix_len};
-ghost use Rattle.ranked.specs.Order.{entered, in_its_place, in_rank, replaceable, replaced, level};
+ghost use Rattle.ranked.specs.Order.{entered, in_its_place, replaceable, replaced, level};
 ghost use Rattle.ranked.specs.View.{entries, room, count, free};
 
 use super::{MOST_ENTRIES, RankedList};
 use crate::rank::Rank;
 use crate::refusal::Refusal;
-
-// How many entries stand before x: all that are better or level.
-pub(super) fn spot<T: Rank>(entries: &[T], x: &T) -> usize
-    requires { in_rank T.better entries.now ≡ true }
-    ensures within { result ≤ length entries.now }
-    ensures there { result ≡ prefix_len (λ y. not (T.better x.now y)) entries.now }
-{
-    entries.partition_point(|y| !x.beats(y))
-}
 
 // Puts x at a place before the last, which is free.
 fn put_in<T: Copy>(places: &mut [T], at: usize, x: T)
@@ -25,16 +16,6 @@ fn put_in<T: Copy>(places: &mut [T], at: usize, x: T)
     let last = places.len() - 1;
     places[last] = x;
     places[at..].rotate_right(1);
-}
-
-// Puts x behind all that are better or level; the last place is free.
-fn enter<T: Rank + Copy>(places: &mut [T], x: T)
-    requires free { 0 < length places.old }
-    requires order { in_rank T.better (take (length places.old - 1) places.old) ≡ true }
-    ensures { places.new ≡ entered T.better x (take (length places.old - 1) places.old) }
-{
-    let at = spot(&places[..places.len() - 1], &x);
-    put_in(places, at, x);
 }
 
 // Closes the gap that an entry leaves; the last place is free.
@@ -94,6 +75,14 @@ impl<'a, T: Rank + Copy> RankedList<'a, T> {
         self.entries().first().copied()
     }
 
+    // How many entries stand before x: all that are better or level.
+    pub(super) fn spot(&self, x: &T) -> usize
+        ensures within { result ≤ count self.now }
+        ensures there { result ≡ prefix_len (λ y. not (T.better x.now y)) (entries self.now) }
+    {
+        self.entries().partition_point(|y| !x.beats(y))
+    }
+
     // Puts x behind all that are better or level; refused, and nothing is changed, where no place is free.
     pub fn insert(&mut self, x: T) -> Result<(), Refusal>
         ensures answer { result ≡ (if free self.old then Ok tt else Err Refusal.NoFreePlace) }
@@ -105,7 +94,8 @@ impl<'a, T: Rank + Copy> RankedList<'a, T> {
         if self.len >= self.room() {
             return Err(Refusal::NoFreePlace);
         }
-        enter(&mut self.places[..self.len + 1], x);
+        let at = self.spot(&x);
+        put_in(&mut self.places[..self.len + 1], at, x);
         self.len += 1;
         Ok(())
     }

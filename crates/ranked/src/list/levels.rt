@@ -1,25 +1,11 @@
 // The levels of a ranked list.
-ghost use Rattle.std.specs.Prelude.{◌≡◌, ◌≤◌, true, length, sum_by};
+ghost use Rattle.std.specs.Prelude.{◌≡◌, ◌≤◌, length, sum_by};
 ghost use Rattle.ranked.specs.Level.{level_at, level_with, fills, filled_level};
-ghost use Rattle.ranked.specs.Order.{in_rank};
 ghost use Rattle.ranked.specs.Totals.{total};
 ghost use Rattle.ranked.specs.View.{entries, count, room};
 
 use super::RankedList;
-use super::calls::spot;
 use crate::rank::{Fill, Rank};
-
-// The level from a place on.
-fn level_of<T: Rank>(entries: &[T], at: usize) -> &[T]
-    requires { in_rank T.better entries.now ≡ true }
-    ensures { result.now ≡ level_at T.better at entries.now }
-{
-    let Some(best) = entries.get(at) else {
-        return &[];
-    };
-    let behind = &entries[at..];
-    &behind[..spot(behind, best)]
-}
 
 // The contracts of some entries.
 fn sum<T: Fill>(entries: &[T]) -> u64
@@ -33,6 +19,7 @@ fn sum<T: Fill>(entries: &[T]) -> u64
 fn fill<T: Fill + Copy>(entries: &mut [T], shares: &[u32])
     ensures { entries.new ≡ fills T.fill entries.old shares.now }
 {
+    // By index, since after a `zip` over `iter_mut` no element is known to the check.
     for (i, x) in entries.iter_mut().enumerate() {
         let Some(share) = shares.get(i) else {
             break;
@@ -41,23 +28,16 @@ fn fill<T: Fill + Copy>(entries: &mut [T], shares: &[u32])
     }
 }
 
-// Fills the level from a place on, one share each, as far as both go.
-fn fill_in<T: Fill + Copy>(entries: &mut [T], at: usize, shares: &[u32])
-    requires { in_rank T.better entries.old ≡ true }
-    ensures { entries.new ≡ filled_level T.better T.fill at shares.now entries.old }
-{
-    let size = level_of(entries, at).len();
-    let start = at.min(entries.len());
-    fill(&mut entries[start..start + size], shares);
-}
-
 impl<'a, T: Rank + Copy> RankedList<'a, T> {
     // The level from a place on: the entry there and what is level with it; empty past the last.
     pub fn level(&self, at: usize) -> &[T]
         ensures value { result.now ≡ level_at T.better at (entries self.now) }
         ensures all_that_is_level { result.now ≡ level_with T.better at (entries self.now) }
     {
-        level_of(self.entries(), at)
+        match self.get(at) {
+            Some(best) => &self.entries()[at..self.spot(&best)],
+            None => &[],
+        }
     }
 }
 
@@ -75,6 +55,10 @@ impl<'a, T: Fill + Copy> RankedList<'a, T> {
         ensures count { count self.new ≡ count self.old }
         ensures room { room self.new ≡ room self.old }
     {
-        fill_in(&mut self.places[..self.len], at, shares);
+        if let Some(best) = self.get(at) {
+            let end = self.spot(&best);
+            let entries = &mut self.places[..self.len];
+            fill(&mut entries[at..end], shares);
+        }
     }
 }
