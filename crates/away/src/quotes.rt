@@ -8,7 +8,7 @@ mod calls;
 use crate::prices::Away;
 use ranked::{Rank, RankedList};
 
-// What a list of away prices reads of an entry.
+// What a list of away prices reads of an entry. The list is over any such entry, since a struct with a ghost field takes no `bool` const parameter.
 pub(crate) trait Quote: Rank {
     ghost exchange: { Self → ℕ };
 
