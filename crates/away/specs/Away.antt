@@ -1,4 +1,4 @@
--- Away prices: an exchange and its price. The sides are the const parameter of `Away`, as a number.
+-- Away prices: an exchange and its price. The const parameter of `Away` is a number here: 1 where the higher price is the better, 0 where the lower is.
 use Rattle.std.specs.Prelude.{ℕ, Bool, true, false, nat_lt}
 use Rattle.away.specs.declared.prices.Away.{Away}
 

@@ -13,6 +13,7 @@ use crate::prices::{Away, AwayBid, AwayOffer};
 use crate::quotes::PriceList;
 use market::{OutsideMarket, Refusal};
 
+// Each side has calls of its own, which callers name; what they do is written once, in `PriceList`.
 impl<'a> AwayBoard<'a> {
     // A board without a price, over lent places.
     pub fn new(bids: &'a mut [AwayBid], offers: &'a mut [AwayOffer]) -> AwayBoard<'a>

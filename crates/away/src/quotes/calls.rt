@@ -82,6 +82,7 @@ impl<'a, T: Quote + Copy> PriceList<'a, T> {
             return Err(Refusal::Unfit);
         }
         self.take_out(letter);
+        // Never refused: a place is free now.
         let _ = self.list.insert(x);
         Ok(())
     }
