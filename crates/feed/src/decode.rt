@@ -6,7 +6,7 @@ ghost use Rattle.feed.specs.Frames.{count_of, message_at};
 ghost use Rattle.feed.specs.Shown.{heard, found, LentAt};
 
 use crate::fault::{Fault, Reason};
-use crate::layout::{Layout, part};
+use crate::layout::{Layout, field};
 use crate::message::{Message, Summary, Update};
 
 // The byte at a place; past the end, 0.
@@ -16,17 +16,17 @@ pub fn byte_at(bytes: &[u8], place: usize) -> u8
     bytes.get(place).copied().unwrap_or(0)
 }
 
-fn is_printable(b: u8) -> bool
-    ensures { result ≡ printable b }
+fn is_printable(byte: u8) -> bool
+    ensures { result ≡ printable byte }
 {
-    matches!(b, 0x20..=0x7e)
+    matches!(byte, 0x20..=0x7e)
 }
 
 // Whether a symbol may stand in a message.
 pub fn is_symbol(symbol: &[u8]) -> bool
     ensures { result ≡ symbol_fit symbol.now }
 {
-    symbol.iter().all(|b| is_printable(*b))
+    symbol.iter().all(|byte| is_printable(*byte))
 }
 
 // Whether a byte is an auction letter.
@@ -56,7 +56,7 @@ impl<'a> Part<'a> {
         }
     }
 
-    // What is wrong with it, if it has a layout of `n` bytes.
+    // What is wrong with it, if it has a layout of `n` bytes. Symbol and letter are named by their places, as `read` names every field.
     #[tactic(auto, unfolding(crate::specs::Layouts::flaw))]
     fn check(&self, n: usize) -> Result<(), Fault>
         requires { 27 ≤ n }
@@ -66,7 +66,7 @@ impl<'a> Part<'a> {
         if self.bytes.len() < n {
             return Err(self.fault(Reason::Short, 0));
         }
-        if !is_symbol(&part::<8>(self.bytes, 6)) {
+        if !is_symbol(&self.bytes[6..14]) {
             return Err(self.fault(Reason::Symbol, 6));
         }
         if !is_letter(self.bytes[14]) {
@@ -80,13 +80,13 @@ impl<'a> Part<'a> {
         ensures answer { heard result ≡ published self.now.bytes.now self.now.place }
         ensures lent { IfOk result (λ x. LentAt self.now.bytes.ref_ptr.0 self.now.bytes.ref_ptr.1 x) }
     {
-        // each message is made in its arm: one that comes in a `Result` of its own type is copied, and reading is slower by half
+        // each message is made in its arm: one that comes in a `Result` of its own type is copied, and reading is slower
         match self.bytes[1] {
-            0xd1 => {
+            Update::TYPE => {
                 self.check(Update::SIZE)?;
                 Ok(Message::Update(Update::read(self.bytes)))
             }
-            0x96 => {
+            Summary::TYPE => {
                 self.check(Summary::SIZE)?;
                 Ok(Message::Summary(Summary::read(self.bytes)))
             }
@@ -108,7 +108,7 @@ pub fn message_at<'a>(frame: &'a [u8], place: usize) -> Result<Found<'a>, Fault>
     ensures next { IfOk result (λ x. x.next ≡ place + slice_index frame.now place) }
     ensures lent { IfOk result (λ x. LentAt frame.entry.ref_ptr.0 (place + frame.entry.ref_ptr.1) x.message) }
 {
-    let length = byte_at(frame, place) as usize;
+    let length = usize::from(byte_at(frame, place));
     let next = place.saturating_add(length);
     if length < 2 || next > frame.len() {
         return Err(Fault {
@@ -126,7 +126,7 @@ pub fn message_at<'a>(frame: &'a [u8], place: usize) -> Result<Found<'a>, Fault>
 pub fn count_of(frame: &[u8]) -> Result<u8, Fault>
     ensures { result ≡ count_of frame.now }
 {
-    if frame.len() < 8 || u16::from_le_bytes(part(frame, 0)) as usize != frame.len() {
+    if frame.len() < 8 || usize::from(u16::from_le_bytes(field(frame, 0))) != frame.len() {
         return Err(Fault {
             reason: Reason::Header,
             place: 0,

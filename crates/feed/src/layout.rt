@@ -9,6 +9,9 @@ use std::convert::AsSlice;
 
 // A message of a published layout.
 pub(crate) trait Layout: Copy {
+    // The byte that says its type.
+    const TYPE: u8;
+
     // The number of its bytes.
     const SIZE: usize;
 
@@ -21,9 +24,9 @@ pub(crate) trait Layout: Copy {
     ghost sent: { Self → Sent };
 
     // The message that bytes write; further bytes tell nothing.
-    fn read(m: &[u8]) -> Self
-        requires { SIZE ≤ length m.now }
-        ensures { result ≡ read m.now };
+    fn read(bytes: &[u8]) -> Self
+        requires { SIZE ≤ length bytes.now }
+        ensures { result ≡ read bytes.now };
 
     fn symbol(&self) -> [u8; 8]
         ensures { result ≡ symbol_of (sent self.now) };
@@ -41,25 +44,27 @@ pub(crate) trait Layout: Copy {
 }
 
 // `N` bytes from a place on.
-pub(crate) fn part<const N: usize>(m: &[u8], place: usize) -> [u8; N]
-    requires { place + N ≤ length m.now }
-    ensures { result ≡ cells N place m.now }
+pub(crate) fn field<const N: usize>(bytes: &[u8], place: usize) -> [u8; N]
+    requires { place + N ≤ length bytes.now }
+    ensures { result ≡ cells N place bytes.now }
 {
-    let mut bytes = [0; N];
-    bytes.copy_from_slice(&m[place..place + N]);
-    bytes
+    let mut field = [0; N];
+    field.copy_from_slice(&bytes[place..place + N]);
+    field
 }
 
 // Writes bytes over a buffer's from a place on. Each field is named by its first place; a range would name its end as well.
-pub(crate) fn lay(buffer: &mut [u8], place: usize, m: &[u8])
-    requires { place + length m.now ≤ length buffer.old }
-    ensures { buffer.new ≡ laid buffer.old place m.now }
+pub(crate) fn lay(buffer: &mut [u8], place: usize, bytes: &[u8])
+    requires { place + length bytes.now ≤ length buffer.old }
+    ensures { buffer.new ≡ laid buffer.old place bytes.now }
 {
-    let end = place + m.len();
-    buffer[place..end].copy_from_slice(m);
+    let end = place + bytes.len();
+    buffer[place..end].copy_from_slice(bytes);
 }
 
 impl Layout for Update {
+    const TYPE: u8 = 0xd1;
+
     const SIZE: usize = 64;
 
     type Bytes = [u8; 64];
@@ -72,19 +77,19 @@ impl Layout for Update {
 
     ghost size = { λ _. refl };
 
-    fn read(m: &[u8]) -> Update {
+    fn read(bytes: &[u8]) -> Update {
         Update {
-            offset: u32::from_le_bytes(part(m, 2)),
-            symbol: part(m, 6),
-            auction: m[14],
-            reference: u64::from_le_bytes(part(m, 15)),
-            buy: u32::from_le_bytes(part(m, 23)),
-            sell: u32::from_le_bytes(part(m, 27)),
-            indicative: u64::from_le_bytes(part(m, 31)),
-            auction_only: u64::from_le_bytes(part(m, 39)),
-            condition: m[47],
-            bid: u64::from_le_bytes(part(m, 48)),
-            offer: u64::from_le_bytes(part(m, 56)),
+            offset: u32::from_le_bytes(field(bytes, 2)),
+            symbol: field(bytes, 6),
+            auction: bytes[14],
+            reference: u64::from_le_bytes(field(bytes, 15)),
+            buy: u32::from_le_bytes(field(bytes, 23)),
+            sell: u32::from_le_bytes(field(bytes, 27)),
+            indicative: u64::from_le_bytes(field(bytes, 31)),
+            auction_only: u64::from_le_bytes(field(bytes, 39)),
+            condition: bytes[47],
+            bid: u64::from_le_bytes(field(bytes, 48)),
+            offer: u64::from_le_bytes(field(bytes, 56)),
         }
     }
 
@@ -110,24 +115,26 @@ impl Layout for Update {
             bid,
             offer,
         } = *self;
-        let mut m = [0; 64];
-        lay(&mut m, 0, &[64, 0xd1]);
-        lay(&mut m, 2, &offset.to_le_bytes());
-        lay(&mut m, 6, &symbol);
-        lay(&mut m, 14, &[auction]);
-        lay(&mut m, 15, &reference.to_le_bytes());
-        lay(&mut m, 23, &buy.to_le_bytes());
-        lay(&mut m, 27, &sell.to_le_bytes());
-        lay(&mut m, 31, &indicative.to_le_bytes());
-        lay(&mut m, 39, &auction_only.to_le_bytes());
-        lay(&mut m, 47, &[condition]);
-        lay(&mut m, 48, &bid.to_le_bytes());
-        lay(&mut m, 56, &offer.to_le_bytes());
-        m
+        let mut bytes = [0; 64];
+        lay(&mut bytes, 0, &[64, Self::TYPE]);
+        lay(&mut bytes, 2, &offset.to_le_bytes());
+        lay(&mut bytes, 6, &symbol);
+        lay(&mut bytes, 14, &[auction]);
+        lay(&mut bytes, 15, &reference.to_le_bytes());
+        lay(&mut bytes, 23, &buy.to_le_bytes());
+        lay(&mut bytes, 27, &sell.to_le_bytes());
+        lay(&mut bytes, 31, &indicative.to_le_bytes());
+        lay(&mut bytes, 39, &auction_only.to_le_bytes());
+        lay(&mut bytes, 47, &[condition]);
+        lay(&mut bytes, 48, &bid.to_le_bytes());
+        lay(&mut bytes, 56, &offer.to_le_bytes());
+        bytes
     }
 }
 
 impl Layout for Summary {
+    const TYPE: u8 = 0x96;
+
     const SIZE: usize = 27;
 
     type Bytes = [u8; 27];
@@ -140,13 +147,13 @@ impl Layout for Summary {
 
     ghost size = { λ _. refl };
 
-    fn read(m: &[u8]) -> Summary {
+    fn read(bytes: &[u8]) -> Summary {
         Summary {
-            offset: u32::from_le_bytes(part(m, 2)),
-            symbol: part(m, 6),
-            auction: m[14],
-            price: u64::from_le_bytes(part(m, 15)),
-            contracts: u32::from_le_bytes(part(m, 23)),
+            offset: u32::from_le_bytes(field(bytes, 2)),
+            symbol: field(bytes, 6),
+            auction: bytes[14],
+            price: u64::from_le_bytes(field(bytes, 15)),
+            contracts: u32::from_le_bytes(field(bytes, 23)),
         }
     }
 
@@ -166,13 +173,13 @@ impl Layout for Summary {
             price,
             contracts,
         } = *self;
-        let mut m = [0; 27];
-        lay(&mut m, 0, &[27, 0x96]);
-        lay(&mut m, 2, &offset.to_le_bytes());
-        lay(&mut m, 6, &symbol);
-        lay(&mut m, 14, &[auction]);
-        lay(&mut m, 15, &price.to_le_bytes());
-        lay(&mut m, 23, &contracts.to_le_bytes());
-        m
+        let mut bytes = [0; 27];
+        lay(&mut bytes, 0, &[27, Self::TYPE]);
+        lay(&mut bytes, 2, &offset.to_le_bytes());
+        lay(&mut bytes, 6, &symbol);
+        lay(&mut bytes, 14, &[auction]);
+        lay(&mut bytes, 15, &price.to_le_bytes());
+        lay(&mut bytes, 23, &contracts.to_le_bytes());
+        bytes
     }
 }

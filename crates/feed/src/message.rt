@@ -7,7 +7,7 @@ pub struct Update {
     pub offset: u32,
     // printable, with blanks behind it
     pub symbol: [u8; 8],
-    // the auction's letter: G, O, H or V
+    // the auction's letter: G, O, H or V; a byte, since the writer refuses another one by a published number
     pub auction: u8,
     pub reference: u64,
     pub buy: u32,

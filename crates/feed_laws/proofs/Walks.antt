@@ -1,7 +1,7 @@
 -- Whole frames.
 use Rattle.std.proofs.Common.{◌≡◌, ℕ, zero, suc, ◌+◌, ◌^◌, ◌<◌, ◌≤◌, eqb, leb, ◌⊎◌, List, [], ◌∷◌, ◌++◌, map, length, get_or, take, drop, Ok, Err, sym, refl, ap, ◌∙◌, subst, inl, inr, ⊎_elim, append_assoc, arith, length-append}
 use Rattle.std.proofs.lemmas.Bool.{cond-true, cond-false, le-ltb, lt-ltb, le-leb, eq-eqb, lt-leb, and_from, and_left, and_right, cases_lt}
-use Rattle.std.proofs.lemmas.List.{get_or-append-add, drop_at, take_at, take-append-drop, length-take-le, get_or-take}
+use Rattle.std.proofs.lemmas.List.{get_or-append-add, drop_at, take_at, take-append-drop, length-map, length-take-le, get_or-take}
 use Rattle.feed.specs.Bytes.{cells, le, bytes}
 use Rattle.feed.specs.Faults.{fault_at}
 use Rattle.feed.specs.Layouts.{unknown, Types, every_type, published, understood}
@@ -88,15 +88,11 @@ told-written : (ms : List Sent) (place : ℕ) → AllFit ms → told every_type 
 told-written [] place fit = refl
 told-written (m ∷ ms) place fit = λ i. followed (written_read m place fit.0 i) (told-written ms (place + length (encoded m)) fit.1 i)
 
-length-map-encoded : (ms : List Sent) → length (map encoded ms) ≡ length ms
-length-map-encoded [] = refl
-length-map-encoded (m ∷ ms) = ap suc (length-map-encoded ms)
-
 pub written_trip : ReadingReturnsWhatWasWritten
 unfolding frame_of
 written_trip ms fit short =
     let body = behind (map encoded ms) in
-    ap (λ k. frame_says every_type (framed k (0 ∷ 0 ∷ 0 ∷ 0 ∷ 0 ∷ []) body)) (sym (length-map-encoded ms))
+    ap (λ k. frame_says every_type (framed k (0 ∷ 0 ∷ 0 ∷ 0 ∷ 0 ∷ []) body)) (sym (length-map ms encoded))
     ∙ every_place every_type (0 ∷ 0 ∷ 0 ∷ 0 ∷ 0 ∷ []) (map encoded ms) refl (written_own_all ms) (omega arith)
     ∙ told-written ms 8 fit
 

@@ -22,6 +22,10 @@ room b n e =
 pub taken : (b : List ℕ) (m : Sent) → has_room b (size_of m) ≡ true → fit m ≡ true → None ≡ refusal b m
 taken b m roomy fits = sym (cond-true _ _ _ roomy ∙ cond-true _ _ _ fits)
 
+-- there is room for a message of the size that it says
+pub room_for : (b : List ℕ) (size : ℕ) (m : Sent) → size ≡ size_of m → true ≡ has_room b size → has_room b (size_of m) ≡ true
+room_for b size m same roomy = ap (has_room b) (sym same) ∙ sym roomy
+
 -- where there is room, the message fits the buffer
 pub fits_within : (b : List ℕ) (m : Sent) (at : ℕ) → at ≡ length_in b → has_room b (size_of m) ≡ true → leb (at + length (encoded m)) (length b) ≡ true
 fits_within b m at begins roomy =

@@ -17,9 +17,12 @@ use Rattle.writer.proofs.Extends.{room, taken}
 abbrev zeros : List ℕ
 zeros = 0 ∷ 0 ∷ 0 ∷ 0 ∷ 0 ∷ []
 
+behind-append : (xs ys : List Sent) → behind (map encoded (xs ++ ys)) ≡ behind (map encoded xs) ++ behind (map encoded ys)
+behind-append [] ys = refl
+behind-append (x ∷ xs) ys = ap (λ t. encoded x ++ t) (behind-append xs ys) ∙ sym (append_assoc (encoded x) (behind (map encoded xs)) (behind (map encoded ys)))
+
 body_push : (ms : List Sent) (m : Sent) → behind (map encoded (ms ++ m ∷ [])) ≡ behind (map encoded ms) ++ encoded m
-body_push [] m = append-nil (encoded m)
-body_push (x ∷ ms) m = ap (λ t. encoded x ++ t) (body_push ms m) ∙ sym (append_assoc (encoded x) (behind (map encoded ms)) (encoded m))
+body_push ms m = behind-append ms (m ∷ []) ∙ ap (λ t. behind (map encoded ms) ++ t) (append-nil (encoded m))
 
 frame_length : (ms : List Sent) → length (frame_of ms) ≡ 8 + length (behind (map encoded ms))
 unfolding frame_of
@@ -126,19 +129,15 @@ unfolding frame_of
 eight_long = refl
 
 -- a frame that was begun holds nothing
-pub starts : (b b' : List ℕ) → leb 8 (length b) ≡ true → b' ≡ begun b → Holds [] b'
-starts b b' able after =
-    let begins : b' ≡ frame_of [] ++ drop 8 b = after ∙ cond-true _ _ _ able ∙ lays_first b in
+pub starts : (b : List ℕ) → 8 ≤ length b → Holds [] (laid b 0 empty_frame)
+starts b able =
+    let begins = lays_first b in
     let eight = eight_long in
     record { frame = ap frame_in begins ∙ begins_frame [] (drop 8 b) (omega arith); fits = tt; short = omega arith }
 
 -- what a buffer holds is what its frame says
 pub reads : (ms : List Sent) (b : List ℕ) → Holds ms b → frame_says every_type (frame_in b) ≡ saying (map meant ms)
 reads ms b h = ap (frame_says every_type) h.frame ∙ written_trip ms h.fits h.short
-
-behind-append : (xs ys : List Sent) → behind (map encoded (xs ++ ys)) ≡ behind (map encoded xs) ++ behind (map encoded ys)
-behind-append [] ys = refl
-behind-append (x ∷ xs) ys = ap (λ t. encoded x ++ t) (behind-append xs ys) ∙ sym (append_assoc (encoded x) (behind (map encoded xs)) (behind (map encoded ys)))
 
 longer : (xs ys : List Sent) → length (frame_of xs) ≤ length (frame_of (xs ++ ys))
 longer xs ys =
@@ -213,11 +212,11 @@ takes_all (m ∷ ms) done b h fits most within =
     (takes_all ms (done ++ m ∷ []) (extended b e) held_on fits.1 (omega arith) (omega arith)))
 
 -- from the start, all messages whose frame fits are written
-pub starts_all : (b b' : List ℕ) → b' ≡ begun b → (ms : List Sent) → AllFit ms → length (frame_of ms) ≤ 1500 → length (frame_of ms) ≤ length b → Holds ms (written_all b' ms)
-starts_all b b' after ms fits most within =
+pub starts_all : (b : List ℕ) (ms : List Sent) → AllFit ms → length (frame_of ms) ≤ 1500 → length (frame_of ms) ≤ length b → Holds ms (written_all (begun b) ms)
+starts_all b ms fits most within =
     let eight = frame_length ms in
-    let able : leb 8 (length b) ≡ true = le-leb 8 (length b) (omega arith) in
-    let begins : b' ≡ laid b 0 empty_frame = after ∙ cond-true _ _ _ able in
+    let able : 8 ≤ length b = omega arith in
     let head = eight_long in
-    let size : length b' ≡ length b = ap length begins ∙ length-laid b 0 empty_frame (omega arith) in
-    takes_all ms [] b' (starts b b' able after) fits most (omega arith)
+    let size : length (laid b 0 empty_frame) ≡ length b = length-laid b 0 empty_frame able in
+    subst (λ t. Holds ms (written_all t ms)) (sym (cond-true _ _ _ (le-leb 8 (length b) able)))
+    (takes_all ms [] (laid b 0 empty_frame) (starts b able) fits most (omega arith))

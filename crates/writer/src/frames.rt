@@ -17,7 +17,7 @@ pub const MAX_FRAME: usize = 1500;
 fn length_in(buffer: &[u8]) -> usize
     ensures { result ≡ length_in buffer.now }
 {
-    u16::from_le_bytes([byte_at(buffer, 0), byte_at(buffer, 1)]) as usize
+    usize::from(u16::from_le_bytes([byte_at(buffer, 0), byte_at(buffer, 1)]))
 }
 
 // Whether `n` bytes more go behind a buffer's frame.
@@ -37,26 +37,28 @@ pub fn frame(buffer: &[u8]) -> &[u8]
 }
 
 // Writes a frame's length and its count of messages into its header.
+#[tactic(auto, unfolding(feed::specs::Sending::laid))]
 fn write_header(buffer: &mut [u8], total: u16, count: u8)
     requires { 8 ≤ length buffer.old }
     ensures { buffer.new ≡ laid buffer.old 0 (bytes 2 total ++ (count ∷ [])) }
 {
-    buffer[0..2].copy_from_slice(&total.to_le_bytes());
-    buffer[2] = count;
+    let [low, high] = total.to_le_bytes();
+    buffer[..3].copy_from_slice(&[low, high, count]);
 }
 
 // Begins a frame without a message at the start of `buffer`.
+#[tactic(auto, using(crate::proofs::Holding::starts_all))]
 pub fn start(buffer: &mut [u8]) -> Result<(), Refusal>
     ensures answer { refused result ≡ start_refusal buffer.old }
     ensures after { buffer.new ≡ begun buffer.old }
     ensures holds { refused result ≡ None → Holds [] buffer.new }
     ensures all_that_fits_is_written { (ms : List Sent) → AllFit ms → length (frame_of ms) ≤ 1500 → length (frame_of ms) ≤ length buffer.old → Holds ms (written_all buffer.new ms) }
 {
-    put(buffer, 0, &[8, 0, 0, 0, 0, 0, 0, 0])?;
-    Ok(())
+    Ok(put(buffer, 0, &[8, 0, 0, 0, 0, 0, 0, 0])?)
 }
 
 // Writes a message behind the frame at the start of `buffer`.
+#[tactic(auto, using(crate::proofs::Holding::reads))]
 pub fn add<M: Encode>(buffer: &mut [u8], message: &M) -> Result<(), Refusal>
     ensures answer { refused result ≡ refusal buffer.old (M.Encode.sent message.now) }
     ensures after { buffer.new ≡ written buffer.old (M.Encode.sent message.now) }
@@ -72,6 +74,7 @@ pub fn add<M: Encode>(buffer: &mut [u8], message: &M) -> Result<(), Refusal>
     }
     let length = length_in(buffer);
     let count = byte_at(buffer, 2);
+    // not refused, since there is room
     message.write_at(buffer, length)?;
     write_header(buffer, (length + size) as u16, count + 1);
     Ok(())

@@ -8,9 +8,9 @@ use feed::NoRoom;
 #[derive(Clone, Copy, Debug, PartialEq)]
 pub enum Refusal {
     // past the buffer, or past the longest frame
-    NoRoom,
+    NoRoom = 35,
     // the symbol or the auction letter is unfit
-    Unfit,
+    Unfit = 36,
 }
 
 impl Refusal {
@@ -18,17 +18,14 @@ impl Refusal {
     pub fn number(&self) -> u8
         ensures { result ≡ number_of self.now }
     {
-        match self {
-            Refusal::NoRoom => 35,
-            Refusal::Unfit => 36,
-        }
+        *self as u8
     }
 }
 
 impl From<NoRoom> for Refusal {
     ghost from_gives = { λ _ refusal. refusal ≡ NoRoom };
 
-    fn from(_no_room: NoRoom) -> Refusal {
+    fn from(_: NoRoom) -> Self {
         Self::NoRoom
     }
 }

@@ -10,4 +10,4 @@ pub returns : goal.returns
 returns c =
     let bytes = c.args.symbol.now in
     all_from_yields_List printable _ _ _ c.all.ensures.ran (YieldsList-from_slice bytes cc) (λ x b q k. search (rules, tests))
-    ∙ same_from_clauses (list_all printable) symbol_fit (λ b t. printable b && t) refl (λ _ _. refl) (λ _ _. refl) bytes
+    ∙ same_from_clauses (list_all printable) symbol_fit (λ byte fits. printable byte && fits) refl (λ _ _. refl) (λ _ _. refl) bytes

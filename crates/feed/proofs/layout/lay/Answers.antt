@@ -8,7 +8,7 @@ pub returns : goal.returns
 unfolding laid
 returns c =
     let b = c.args.buffer.now in
-    let m = c.args.m.now in
+    let bs = c.args.bytes.now in
     let place = c.args.place in
-    let n : place + length m - place ≡ length m = omega arith in
-    (λ i. put_mid place (n i) b (c.copy_from_slice.ensures.after i)) ∙ ap (λ z. take place b ++ (m ++ z)) (drop-drop (length m) place b)
+    let n : place + length bs - place ≡ length bs = omega arith in
+    (λ i. put_mid place (n i) b (c.copy_from_slice.ensures.after i)) ∙ ap (λ z. take place b ++ (bs ++ z)) (drop-drop (length bs) place b)
