@@ -3,10 +3,10 @@ ghost use Rattle.std.specs.Prelude.{◌≡◌, true, false};
 ghost use Rattle.market.specs.Fits.{fit-until};
 ghost use Rattle.market.specs.Market.{until};
 
-use crate::market::OutsideMarket;
+use crate::market::{OutsideMarket, Prices};
 
 // The market below until it is closed, and then none and none.
-#[derive(Clone, Copy)]
+#[derive(Clone, Copy, Drop)]
 pub struct CutOff<M> {
     pub below: M,
     // a flag: an enum round the market below would put it out of reach once closed
@@ -39,7 +39,7 @@ impl<M: OutsideMarket> OutsideMarket for CutOff<M> {
 
     ghost fit = { λ m. fit-until m.closed (M.OutsideMarket.means m.below) (M.OutsideMarket.fit m.below) };
 
-    fn ask(&self) -> (Option<u64>, Option<u64>) {
+    fn ask(&self) -> Prices {
         if self.closed {
             (None, None)
         } else {

@@ -11,7 +11,7 @@ mod tighter;
 
 pub use cut_off::CutOff;
 pub use live::LivePair;
-pub use market::OutsideMarket;
+pub use market::{OutsideMarket, Prices};
 pub use nothing::NoMarket;
 pub use price::is_price;
 pub use refusal::Refusal;

@@ -5,13 +5,13 @@ ghost use Rattle.market.specs.Fits.{fit_sides};
 ghost use Rattle.market.specs.Market.{sides_fit};
 ghost use Rattle.market.specs.Refusals.{unless};
 
-use crate::market::OutsideMarket;
+use crate::market::{OutsideMarket, Prices};
 use crate::price::is_side;
 use crate::refusal::Refusal;
 
 #[derive(Clone, Copy)]
 pub struct LivePair {
-    sides: (Option<u64>, Option<u64>),
+    sides: Prices,
     ghost fit: { sides_fit sides ≡ true },
 }
 
@@ -56,7 +56,7 @@ impl OutsideMarket for LivePair {
 
     ghost fit = { λ m. fit_sides m.sides m.fit };
 
-    fn ask(&self) -> (Option<u64>, Option<u64>) {
+    fn ask(&self) -> Prices {
         self.sides
     }
 }

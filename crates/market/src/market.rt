@@ -2,12 +2,15 @@
 ghost use Rattle.std.specs.Prelude.{◌≡◌};
 ghost use Rattle.market.specs.Market.{Pair, Fit};
 
+// A bid or none, and an offer or none: a tuple, since that is the answer that every outside market is to give.
+pub type Prices = (Option<u64>, Option<u64>);
+
 // A bid or none and an offer or none, as other exchanges have them. Asking changes nothing and never refuses.
 pub trait OutsideMarket {
     ghost means: { Self → Pair };
 
     // The bid and the offer.
-    fn ask(&self) -> (Option<u64>, Option<u64>)
+    fn ask(&self) -> Prices
         ensures answer { result ≡ means self.now }
         ensures unchanged { self.exit.now ≡ self.entry.now };
 
@@ -21,7 +24,7 @@ impl<'a, M: OutsideMarket> OutsideMarket for &'a M {
 
     ghost fit = { λ m. M.OutsideMarket.fit m.now };
 
-    fn ask(&self) -> (Option<u64>, Option<u64>) {
+    fn ask(&self) -> Prices {
         (*self).ask()
     }
 }

@@ -1,7 +1,7 @@
 // No market at all.
 ghost use Rattle.std.specs.Prelude.{None};
 
-use crate::market::OutsideMarket;
+use crate::market::{OutsideMarket, Prices};
 
 #[derive(Clone, Copy)]
 pub struct NoMarket;
@@ -11,7 +11,7 @@ impl OutsideMarket for NoMarket {
 
     ghost fit = { λ _. (tt, tt) };
 
-    fn ask(&self) -> (Option<u64>, Option<u64>) {
+    fn ask(&self) -> Prices {
         (None, None)
     }
 }

@@ -5,7 +5,7 @@ ghost use Rattle.ranked.specs.Refusals.{number_of};
 #[derive(Clone, Copy, Debug, PartialEq)]
 pub enum Refusal {
     // every place of the list holds an entry
-    NoFreePlace,
+    NoFreePlace = 7,
 }
 
 impl Refusal {
@@ -13,8 +13,6 @@ impl Refusal {
     pub fn number(&self) -> u8
         ensures { result ≡ number_of self.now }
     {
-        match self {
-            Refusal::NoFreePlace => 7,
-        }
+        *self as u8
     }
 }

@@ -1,6 +1,6 @@
 // The published table.
-ghost use Rattle.std.specs.Prelude.{◌≡◌, fold, cond, nat_le};
-ghost use Rattle.width.specs.Widths.{table_width, table_capped};
+ghost use Rattle.std.specs.Prelude.{◌≡◌};
+ghost use Rattle.width.specs.Widths.{looked_up, table_width, table_capped};
 
 use crate::rule::WidthRule;
 
@@ -16,11 +16,12 @@ const ROWS: [(u64, u64); 8] = [
     (2_000_100, 120_000),
 ];
 
-// The width of the last of some rows whose lowest bid is at or below the bid. No row is left out: a search from the last
-// one that stops at the row found is slower.
+// The width of the last of some rows whose lowest bid is at or below the bid.
+#[tactic(auto, using(crate::proofs::Rows::looked_up_is))]
 fn looked_up(rows: &[(u64, u64)], bid: u64) -> u64
-    ensures { result ≡ fold (λ width row. cond (nat_le row.0 bid) row.1 width) 0 rows.now }
+    ensures { result ≡ looked_up bid rows.now 0 }
 {
+    // through every row: a search from the last one that stops at the row found is slower
     rows.iter().fold(0, |width, &(lowest, row_width)| {
         if lowest <= bid { row_width } else { width }
     })
