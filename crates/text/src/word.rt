@@ -42,7 +42,7 @@ fn first_word(line: &[u8]) -> Option<(&[u8], &[u8])>
 }
 
 // The words of a line, from left to right. Words stand between blanks: spaces, tabs and carriage returns.
-#[derive(Clone, Copy, Debug)]
+#[derive(Debug, Drop)]
 pub struct Words<'a>(pub &'a [u8]);
 
 impl<'a> Iterator for Words<'a> {
