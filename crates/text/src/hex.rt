@@ -52,6 +52,7 @@ pub fn push_word<'a>(out: &mut Vec<u8>, word: &'a [u8]) -> Result<(), HexError<'
         return Err(HexError::NotHex(word));
     }
     out.reserve(word.len() / 2)?;
+    // a pattern names both digits of a pair, where a chunk would be indexed
     let mut rest = word;
     while let [high, low, tail @ ..] = rest {
         out.push_reserved(hex_digit(*high).unwrap() * 16 + hex_digit(*low).unwrap());
