@@ -1,9 +1,9 @@
 -- Lists of away prices: where an exchange stands, and what taking it out leaves.
-use Rattle.std.proofs.Common.{◌≡◌, ℕ, suc, ◌+◌, ◌-◌, ◌<◌, ◌≤◌, Bool, true, false, cond, not, ◌||◌, eqb, ltb, List, [], ◌∷◌, length, get_or, drop, sym, refl, ap, ◌∙◌, inl, inr, one-add, arith}
-use Rattle.std.specs.List.{remove}
-use Rattle.std.proofs.lemmas.List.Sums.{prefix_len-drop_yes, prefix_len-drop_no, prefix_len-drop_all}
-use Rattle.std.proofs.lemmas.Bool.{cases_lt, eq-eqb, ne_eqb, lt-ltb, le-ltb, ltb-true, not_from_true, not_from_false}
-use Rattle.away.specs.Board.{quoted, place_of, without}
+use Rattle.std.proofs.Common.{◌≡◌, ℕ, suc, ◌+◌, ◌-◌, ◌<◌, ◌≤◌, Bool, true, false, cond, not, ◌||◌, ◌==◌, eqb, ltb, List, [], ◌∷◌, length, is_some, Some, None, sym, refl, ap, ◌∙◌, inl, inr, one-add, arith}
+use Rattle.std.specs.List.{remove, position, position_or_len, prefix_len}
+use Rattle.std.proofs.lemmas.List.Recursion.{is_position_or_len}
+use Rattle.std.proofs.lemmas.Bool.{cases_lt, lt-ltb, le-ltb, ltb-true, or_parts, cond-false}
+use Rattle.away.specs.Board.{quoted, without}
 
 ltb_suc : (m n : ℕ) → ltb (suc m) (suc n) ≡ ltb m n
 ltb_suc m n =
@@ -12,35 +12,61 @@ ltb_suc m n =
       | inr h ↦ le-ltb (suc m) (suc n) (omega arith) ∙ sym (le-ltb m n h)
     ]
 
+turned : (t : Bool) (n : ℕ) → cond (not t) n 0 ≡ cond t 0 n
+turned true n = refl
+turned false n = refl
+
+tests_some : (t : Bool) (n : ℕ) → is_some (cond t (Some n) None) ≡ t
+tests_some true n = refl
+tests_some false n = refl
+
+some_of : (t : Bool) (n at : ℕ) → Some at ≡ cond t (Some n) None → (t ≡ true) × (at ≡ n)
+some_of true n at e = (refl, cc)
+some_of false n at e = absurd cc
+
 module _ {X : Type 0} (exchange : X → ℕ) (e : ℕ) where
-  pub found_here : (xs : List X) (i : ℕ) (x : X) → i < length xs → x ≡ get_or xs i x → exchange x ≡ e → i + place_of exchange e (drop i xs) ≡ i
-  found_here xs i x lt is h =
-      omega (arith, prefix_len-drop_no (λ y. not (eqb (exchange y) e)) xs i x lt (not_from_true (eqb (exchange (get_or xs i x)) e) (eq-eqb (exchange (get_or xs i x)) e (sym (ap exchange is) ∙ h))))
+  abbrev place : List X → ℕ
+  place xs = prefix_len (λ x. not (exchange x == e)) xs
 
-  pub found_on : (xs : List X) (i : ℕ) (x : X) → i < length xs → x ≡ get_or xs i x → (exchange x ≡ e → ⊥) → i + 1 + place_of exchange e (drop (i + 1) xs) ≡ i + place_of exchange e (drop i xs)
-  found_on xs i x lt is n =
-      omega (arith, prefix_len-drop_yes (λ y. not (eqb (exchange y) e)) xs i x lt (not_from_false (eqb (exchange (get_or xs i x)) e) (ne_eqb (exchange (get_or xs i x)) e (λ q. n (ap exchange is ∙ q)))))
+  place_is : (xs : List X) → place xs ≡ position_or_len (λ x. exchange x == e) xs
+  place_is xs = is_position_or_len place (λ x. exchange x == e) refl (λ x ys. turned (eqb (exchange x) e) (1 + place ys)) xs
 
-  pub found_none : (xs : List X) (i : ℕ) → i ≡ length xs → i + place_of exchange e (drop i xs) ≡ i
-  found_none xs i le = omega (arith, prefix_len-drop_all (λ y. not (eqb (exchange y) e)) xs i (omega arith))
-
-  pub removed_is : (xs : List X) → remove xs (place_of exchange e xs) ≡ without exchange e xs
+  removed_is : (xs : List X) → remove xs (place xs) ≡ without exchange e xs
   removed_is [] = refl
   removed_is (x ∷ xs) = by (eqb (exchange x) e) (removed_is xs)
     where
-      by : (t : Bool) → remove xs (place_of exchange e xs) ≡ without exchange e xs → remove (x ∷ xs) (cond (not t) (1 + place_of exchange e xs) 0) ≡ cond t xs (x ∷ without exchange e xs)
+      by : (t : Bool) → remove xs (place xs) ≡ without exchange e xs → remove (x ∷ xs) (cond (not t) (1 + place xs) 0) ≡ cond t xs (x ∷ without exchange e xs)
       by true h = refl
-      by false h = ap (remove (x ∷ xs)) (one-add (place_of exchange e xs)) ∙ ap (λ ys. x ∷ ys) h
+      by false h = ap (remove (x ∷ xs)) (one-add (place xs)) ∙ ap (λ ys. x ∷ ys) h
 
-  pub place_within : (xs : List X) → ltb (place_of exchange e xs) (length xs) ≡ quoted exchange e xs
+  place_within : (xs : List X) → ltb (place xs) (length xs) ≡ quoted exchange e xs
   place_within [] = refl
   place_within (x ∷ xs) = by (eqb (exchange x) e) (place_within xs)
     where
-      by : (t : Bool) → ltb (place_of exchange e xs) (length xs) ≡ quoted exchange e xs → ltb (cond (not t) (1 + place_of exchange e xs) 0) (length (x ∷ xs)) ≡ (t || quoted exchange e xs)
+      by : (t : Bool) → ltb (place xs) (length xs) ≡ quoted exchange e xs → ltb (cond (not t) (1 + place xs) 0) (length (x ∷ xs)) ≡ (t || quoted exchange e xs)
       by true h = lt-ltb 0 (suc (length xs)) (omega arith)
-      by false h = ap (λ n. ltb n (suc (length xs))) (one-add (place_of exchange e xs)) ∙ ltb_suc (place_of exchange e xs) (length xs) ∙ h
+      by false h = ap (λ n. ltb n (suc (length xs))) (one-add (place xs)) ∙ ltb_suc (place xs) (length xs) ∙ h
+
+  -- an exchange is found where it has a price
+  pub found : (xs : List X) → is_some (position (λ x. exchange x == e) xs) ≡ quoted exchange e xs
+  found xs = tests_some (ltb (position_or_len (λ x. exchange x == e) xs) (length xs)) (position_or_len (λ x. exchange x == e) xs) ∙ ap (λ k. ltb k (length xs)) (sym (place_is xs)) ∙ place_within xs
+
+  -- its price is taken out at that place
+  pub found_at : (xs : List X) (at : ℕ) → Some at ≡ position (λ x. exchange x == e) xs → (at < length xs) × (quoted exchange e xs ≡ true) × (remove xs at ≡ without exchange e xs)
+  found_at xs at h =
+      let s = some_of (ltb (position_or_len (λ x. exchange x == e) xs) (length xs)) (position_or_len (λ x. exchange x == e) xs) at h in
+      (omega (arith, ltb-true (position_or_len (λ x. exchange x == e) xs) (length xs) s.0, s.1), sym (found xs) ∙ sym (ap is_some h), ap (remove xs) (s.1 ∙ sym (place_is xs)) ∙ removed_is xs)
+
+  unquoted_without : (xs : List X) → quoted exchange e xs ≡ false → without exchange e xs ≡ xs
+  unquoted_without [] h = refl
+  unquoted_without (x ∷ xs) h =
+      let a = or_parts (eqb (exchange x) e) (quoted exchange e xs) h in
+      cond-false (eqb (exchange x) e) xs (x ∷ without exchange e xs) a.0 ∙ ap (λ ys. x ∷ ys) (unquoted_without xs a.1)
+
+  -- where it has none, there is nothing to take out
+  pub found_none : (xs : List X) → None ≡ position (λ x. exchange x == e) xs → (quoted exchange e xs ≡ false) × (without exchange e xs ≡ xs)
+  found_none xs h = let q : quoted exchange e xs ≡ false = sym (found xs) ∙ sym (ap is_some h) in (q, unquoted_without xs q)
 
 -- a list that lost an entry has a free place
-pub place_after : (q t : Bool) (at n room m : ℕ) → t ≡ ltb at n → q ≡ t → n ≤ room → m ≡ cond t (n - 1) n → ltb m room ≡ (q || ltb n room)
-place_after q true at n room m e h le c = lt-ltb m room (omega (arith, ltb-true at n (sym e))) ∙ ap (λ s. s || ltb n room) (sym h)
-place_after q false at n room m e h le c = ap (λ k. ltb k room) c ∙ ap (λ s. s || ltb n room) (sym h)
+pub place_after : (at n room m : ℕ) → at < n → n ≤ room → m ≡ cond (ltb at n) (n - 1) n → ltb m room ≡ true
+place_after at n room m lt le e = lt-ltb m room (omega (arith, e ∙ ap (λ t. cond t (n - 1) n) (lt-ltb at n lt)))

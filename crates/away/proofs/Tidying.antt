@@ -2,13 +2,12 @@
 use Rattle.std.proofs.Common.{◌≡◌, ℕ, Bool, true, false, cond, not, ◌&&◌, eqb, List, [], ◌∷◌, Some, None, Option, sym, refl, ap, ◌∙◌, subst, ⊎_elim}
 use Rattle.std.specs.List.{list_all}
 use Rattle.std.proofs.lemmas.Bool.{cases_Bool, cond-true, cond-false, and_parts, and_from, or_parts, or_from, eqb-true, eqb-false, ne_eqb, not-true, not_from_false}
-use Rattle.ranked.specs.Order.{entered, in_rank}
+use Rattle.ranked.specs.Order.{entered}
 use Rattle.ranked.proofs.Kept.{pass_entered}
-use Rattle.away.specs.Board.{is_exchange, quoted, without, posted, price_at, post_refusal, clear_refusal, once, fit_quotes, tidy}
+use Rattle.away.specs.Board.{is_exchange, quoted, without, posted, price_at, once, fit_quotes}
 use Rattle.market.specs.Market.{is_price}
 use Rattle.market.specs.Refusals.{unless}
 use Rattle.market.specs.declared.refusal.Refusal.{Refusal}
-use Rattle.market.specs.declared.refusal.Refusal.TheVariants.{NoFreePlace, Unfit}
 
 module _ {X : Type 0} (exchange : X → ℕ) where
   -- what the list lacks, it lacks without another exchange too
@@ -135,69 +134,36 @@ module _ {X : Type 0} (exchange price : X → ℕ) where
       ∙ (λ i. cond (eqb (ex i) f) (Some (px i)) (price_without e f xs o i))
       ∙ twice (eqb e f) (Some p) None (price_at exchange price f xs)
 
+pub fit_without : {X : Type 0} (exchange price : X → ℕ) (e : ℕ) (xs : List X) → fit_quotes exchange price xs ≡ true → fit_quotes exchange price (without exchange e xs) ≡ true
+fit_without exchange price e xs f = pass_without exchange (λ y. is_exchange (exchange y) && is_price (price y)) e xs f
+
 module _ {X : Type 0} (b : X → X → Bool) (exchange price : X → ℕ) where
-  tidy_from : (xs : List X) → in_rank b xs ≡ true → once exchange xs ≡ true → fit_quotes exchange price xs ≡ true → tidy b exchange price xs ≡ true
-  tidy_from xs r o f = and_from (in_rank b xs) (once exchange xs && fit_quotes exchange price xs) r (and_from (once exchange xs) (fit_quotes exchange price xs) o f)
+  -- a price enters where a place is free
+  pub posted_in :
+      (free : Bool) (e : ℕ) (x : X) (old between new : List X) → free ≡ true → between ≡ without exchange e old → new ≡ cond free (entered b x between) between →
+      new ≡ posted b exchange e x old
+  posted_in free e x old between new t m n = n ∙ cond-true free (entered b x between) between t ∙ ap (entered b x) m
 
-  pub tidy_parts : (xs : List X) → tidy b exchange price xs ≡ true → (in_rank b xs ≡ true) × (once exchange xs ≡ true) × (fit_quotes exchange price xs ≡ true)
-  tidy_parts xs h =
-      let a = and_parts (in_rank b xs) (once exchange xs && fit_quotes exchange price xs) h in
-      let c = and_parts (once exchange xs) (fit_quotes exchange price xs) a.1 in
-      (a.0, c.0, c.1)
+  -- what is posted leaves each exchange once
+  pub posted_once : (e : ℕ) (x : X) (xs : List X) → exchange x ≡ e → once exchange xs ≡ true → once exchange (posted b exchange e x xs) ≡ true
+  posted_once e x xs ex o =
+      once-entered exchange b x (without exchange e xs) (subst (λ k. quoted exchange k (without exchange e xs) ≡ false) (sym ex) (taken_out exchange e xs o)) (once-without exchange e xs o)
 
-  -- a list stays tidy, whatever is posted
-  pub posted-tidy :
-      (place : Bool) (e p : ℕ) (x : X) (old new : List X) → exchange x ≡ e → price x ≡ p → (in_rank b old ≡ true → in_rank b new ≡ true) →
-      new ≡ unless (post_refusal place e p) (posted b exchange e x old) old → tidy b exchange price old ≡ true → tidy b exchange price new ≡ true
-  posted-tidy place e p x old new ex px order after h = go place (is_exchange e && is_price p) refl after
-    where
-      t : (in_rank b old ≡ true) × (once exchange old ≡ true) × (fit_quotes exchange price old ≡ true)
-      t = tidy_parts old h
-
-      go : (s f : Bool) → (is_exchange e && is_price p) ≡ f → new ≡ unless (cond s (cond f None (Some Unfit)) (Some NoFreePlace)) (posted b exchange e x old) old → tidy b exchange price new ≡ true
-      go true true fit q =
-          tidy_from new (order t.0)
-          (ap (once exchange) q ∙ once-entered exchange b x (without exchange e old) (subst (λ k. quoted exchange k (without exchange e old) ≡ false) (sym ex) (taken_out exchange e old t.1)) (once-without exchange e old t.1))
-          (ap (fit_quotes exchange price) q
-          ∙ pass_entered b (λ y. is_exchange (exchange y) && is_price (price y)) x (without exchange e old)
-          ((λ i. is_exchange (ex i) && is_price (px i)) ∙ fit)
-          (pass_without exchange (λ y. is_exchange (exchange y) && is_price (price y)) e old t.2))
-      go true false fit q = ap (tidy b exchange price) q ∙ h
-      go false true fit q = ap (tidy b exchange price) q ∙ h
-      go false false fit q = ap (tidy b exchange price) q ∙ h
-
-  -- and whatever is cleared
-  pub cleared_tidy :
-      (e : ℕ) (old new : List X) → (in_rank b old ≡ true → in_rank b new ≡ true) → new ≡ unless (clear_refusal e) (without exchange e old) old →
-      tidy b exchange price old ≡ true → tidy b exchange price new ≡ true
-  cleared_tidy e old new order after h = go (is_exchange e) after
-    where
-      t : (in_rank b old ≡ true) × (once exchange old ≡ true) × (fit_quotes exchange price old ≡ true)
-      t = tidy_parts old h
-
-      go : (f : Bool) → new ≡ unless (cond f None (Some Unfit)) (without exchange e old) old → tidy b exchange price new ≡ true
-      go true q =
-          tidy_from new (order t.0) (ap (once exchange) q ∙ once-without exchange e old t.1)
-          (ap (fit_quotes exchange price) q ∙ pass_without exchange (λ y. is_exchange (exchange y) && is_price (price y)) e old t.2)
-      go false q = ap (tidy b exchange price) q ∙ h
+  -- and all fit
+  pub posted_fit : (e : ℕ) (x : X) (xs : List X) → (is_exchange (exchange x) && is_price (price x)) ≡ true → fit_quotes exchange price xs ≡ true → fit_quotes exchange price (posted b exchange e x xs) ≡ true
+  posted_fit e x xs fit f =
+      pass_entered b (λ y. is_exchange (exchange y) && is_price (price y)) x (without exchange e xs) fit (fit_without exchange price e xs f)
 
   -- what is posted moves the price of its exchange alone
   pub posted_moves :
-      (place : Bool) (e p : ℕ) (x : X) (old new : List X) → exchange x ≡ e → price x ≡ p →
-      new ≡ unless (post_refusal place e p) (posted b exchange e x old) old → tidy b exchange price old ≡ true →
-      (f : ℕ) → price_at exchange price f new ≡ unless (post_refusal place e p) (cond (eqb e f) (Some p) (price_at exchange price f old)) (price_at exchange price f old)
-  posted_moves place e p x old new ex px after h f = go (post_refusal place e p) after
-    where
-      go : (r : Option Refusal) → new ≡ unless r (posted b exchange e x old) old → price_at exchange price f new ≡ unless r (cond (eqb e f) (Some p) (price_at exchange price f old)) (price_at exchange price f old)
-      go None q = ap (price_at exchange price f) q ∙ posted_price exchange price b e p f x old ex px (tidy_parts old h).1
-      go (Some why) q = ap (price_at exchange price f) q
+      (r : Option Refusal) (x : X) (old new : List X) → new ≡ unless r (posted b exchange (exchange x) x old) old → once exchange old ≡ true →
+      (f : ℕ) → price_at exchange price f new ≡ unless r (cond (eqb (exchange x) f) (Some (price x)) (price_at exchange price f old)) (price_at exchange price f old)
+  posted_moves None x old new q o f = ap (price_at exchange price f) q ∙ posted_price exchange price b (exchange x) (price x) f x old refl refl o
+  posted_moves (Some why) x old new q o f = ap (price_at exchange price f) q
 
-  -- and so does what is cleared
-  pub cleared_moves :
-      (e : ℕ) (old new : List X) → new ≡ unless (clear_refusal e) (without exchange e old) old → tidy b exchange price old ≡ true →
-      (f : ℕ) → price_at exchange price f new ≡ unless (clear_refusal e) (cond (eqb e f) None (price_at exchange price f old)) (price_at exchange price f old)
-  cleared_moves e old new after h f = go (clear_refusal e) after
-    where
-      go : (r : Option Refusal) → new ≡ unless r (without exchange e old) old → price_at exchange price f new ≡ unless r (cond (eqb e f) None (price_at exchange price f old)) (price_at exchange price f old)
-      go None q = ap (price_at exchange price f) q ∙ price_without exchange price e f old (tidy_parts old h).1
-      go (Some why) q = ap (price_at exchange price f) q
+-- and so does what is cleared
+pub cleared_moves :
+    {X : Type 0} (exchange price : X → ℕ) (r : Option Refusal) (e : ℕ) (old new : List X) → new ≡ unless r (without exchange e old) old → once exchange old ≡ true →
+    (f : ℕ) → price_at exchange price f new ≡ unless r (cond (eqb e f) None (price_at exchange price f old)) (price_at exchange price f old)
+cleared_moves exchange price None e old new q o f = ap (price_at exchange price f) q ∙ price_without exchange price e f old o
+cleared_moves exchange price (Some why) e old new q o f = ap (price_at exchange price f) q

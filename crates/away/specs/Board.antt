@@ -1,11 +1,9 @@
 -- Lists of away prices, one an exchange, and a board of two. `exchange` and `price` read an entry, `b x y` says that x is better than y.
 use Rattle.std.specs.Prelude.{ℕ, Bool, true, false, cond, not, ◌&&◌, ◌||◌, List, [], ◌∷◌, map, Some, None, Option, ◌==◌, nat_le}
-use Rattle.std.specs.List.{list_all, prefix_len}
-use Rattle.ranked.specs.Order.{entered, in_rank}
-use Rattle.away.specs.Away.{better_bid, better_offer}
+use Rattle.std.specs.List.{list_all}
+use Rattle.ranked.specs.Order.{entered}
+use Rattle.away.specs.Away.{AwayBid, AwayOffer}
 use Rattle.market.specs.Market.{Pair, is_price, highest, lowest}
-use Rattle.away.specs.declared.prices.AwayBid.{AwayBid}
-use Rattle.away.specs.declared.prices.AwayOffer.{AwayOffer}
 use Rattle.market.specs.declared.refusal.Refusal.{Refusal}
 use Rattle.market.specs.declared.refusal.Refusal.TheVariants.{NoFreePlace, Unfit}
 
@@ -17,15 +15,6 @@ is_exchange e = nat_le 65 e && nat_le e 90
 abbrev pub quoted : {X : Type 0} → (X → ℕ) → ℕ → List X → Bool
 quoted exchange e [] = false
 quoted exchange e (x ∷ xs) = exchange x == e || quoted exchange e xs
-
--- the price of an entry, if it is there
-abbrev pub priced : {X : Type 0} → (X → ℕ) → Option X → Option ℕ
-priced price None = None
-priced price (Some x) = Some (price x)
-
--- where an exchange's price stands in a list, or the length where it has none
-abbrev pub place_of : {X : Type 0} → (X → ℕ) → ℕ → List X → ℕ
-place_of exchange e xs = prefix_len (λ x. not (exchange x == e)) xs
 
 -- a list without an exchange's price
 abbrev pub without : {X : Type 0} → (X → ℕ) → ℕ → List X → List X
@@ -57,14 +46,6 @@ once exchange (x ∷ xs) = not (quoted exchange (exchange x) xs) && once exchang
 -- each exchange and each price is fit
 abbrev pub fit_quotes : {X : Type 0} → (X → ℕ) → (X → ℕ) → List X → Bool
 fit_quotes exchange price xs = list_all (λ x. is_exchange (exchange x) && is_price (price x)) xs
-
--- what a list of away prices keeps: the order of rank, each exchange once, all fit
-abbrev pub tidy : {X : Type 0} → (X → X → Bool) → (X → ℕ) → (X → ℕ) → List X → Bool
-tidy b exchange price xs = in_rank b xs && (once exchange xs && fit_quotes exchange price xs)
-
--- what a board keeps
-abbrev pub sound : List AwayBid → List AwayOffer → Bool
-sound bids offers = tidy better_bid (λ x. x.exchange) (λ x. x.price) bids && tidy better_offer (λ x. x.exchange) (λ x. x.price) offers
 
 -- the market that a board is: the best of its bids and of its offers
 abbrev pub best_of : List AwayBid → List AwayOffer → Pair

@@ -2,31 +2,30 @@
 use Rattle.std.specs.Prelude.{ℕ, Bool, ◌||◌, List, Option}
 use Rattle.ranked.specs.View.{entries, room, free}
 use Rattle.away.specs.Board.{quoted, price_at, post_refusal}
-use Rattle.away.specs.declared.prices.AwayBid.{AwayBid}
-use Rattle.away.specs.declared.prices.AwayOffer.{AwayOffer}
+use Rattle.away.specs.Away.{AwayBid, AwayOffer}
 use Rattle.away.specs.declared.board.AwayBoard.{AwayBoard}
 use Rattle.market.specs.declared.refusal.Refusal.{Refusal}
 
 -- its bids and its offers, the best first
 abbrev pub bids_of : AwayBoard → List AwayBid
-bids_of b = entries b.bids
+bids_of b = entries b.bids.list
 
 abbrev pub offers_of : AwayBoard → List AwayOffer
-offers_of b = entries b.offers
+offers_of b = entries b.offers.list
 
 -- how many of each there may be
 abbrev pub bid_room : AwayBoard → ℕ
-bid_room b = room b.bids
+bid_room b = room b.bids.list
 
 abbrev pub offer_room : AwayBoard → ℕ
-offer_room b = room b.offers
+offer_room b = room b.offers.list
 
 -- whether there is a place for an exchange's price: its own, or a free one
 abbrev pub bid_place : ℕ → AwayBoard → Bool
-bid_place e b = quoted (λ x. x.exchange) e (bids_of b) || free b.bids
+bid_place e b = quoted (λ x. x.exchange) e (bids_of b) || free b.bids.list
 
 abbrev pub offer_place : ℕ → AwayBoard → Bool
-offer_place e b = quoted (λ x. x.exchange) e (offers_of b) || free b.offers
+offer_place e b = quoted (λ x. x.exchange) e (offers_of b) || free b.offers.list
 
 -- why an exchange's price is not taken, if so
 abbrev pub bid_refusal : AwayBoard → ℕ → ℕ → Option Refusal

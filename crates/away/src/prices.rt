@@ -1,25 +1,23 @@
 // Away prices: an exchange and its price.
-ghost use Rattle.away.specs.Away.{better_bid, better_offer};
+ghost use Rattle.away.specs.Away.{better};
 ghost use Rattle.std.proofs.Common.{rules};
 
 use ranked::Rank;
 
+// An away price of the side on which the higher price is the better, or on which the lower is.
 #[derive(Clone, Copy)]
-pub struct AwayBid {
+pub struct Away<const HIGHER: bool> {
     // A to Z
     pub exchange: u8,
     pub price: u64,
 }
 
-#[derive(Clone, Copy)]
-pub struct AwayOffer {
-    pub exchange: u8,
-    pub price: u64,
-}
+pub type AwayBid = Away<true>;
 
-// Of bids the higher is better.
-impl Rank for AwayBid {
-    ghost better = { better_bid };
+pub type AwayOffer = Away<false>;
+
+impl<const HIGHER: bool> Rank for Away<HIGHER> {
+    ghost better = { better HIGHER };
 
     ghost apart = { Prim.search rules };
 
@@ -27,22 +25,11 @@ impl Rank for AwayBid {
 
     ghost levels = { Prim.search rules };
 
-    fn beats(&self, other: &AwayBid) -> bool {
-        other.price < self.price
-    }
-}
-
-// Of offers the lower is better.
-impl Rank for AwayOffer {
-    ghost better = { better_offer };
-
-    ghost apart = { Prim.search rules };
-
-    ghost carries = { Prim.search rules };
-
-    ghost levels = { Prim.search rules };
-
-    fn beats(&self, other: &AwayOffer) -> bool {
-        self.price < other.price
+    fn beats(&self, other: &Away<HIGHER>) -> bool {
+        if HIGHER {
+            other.price < self.price
+        } else {
+            self.price < other.price
+        }
     }
 }

@@ -1,5 +1,5 @@
 // The published layouts: where each field lies in a message's bytes.
-ghost use Rattle.std.specs.Prelude.{◌≡◌, ℕ, ◌+◌, ◌≤◌, List, length, slice_index, refl};
+ghost use Rattle.std.specs.Prelude.{◌≡◌, ℕ, ◌+◌, ◌≤◌, List, length, refl};
 ghost use Rattle.feed.specs.Bytes.{cells};
 ghost use Rattle.feed.specs.Layouts.{update_of, summary_of};
 ghost use Rattle.feed.specs.Sending.{Sent, sent_update, sent_summary, encoded, size_of, symbol_of, letter_of, InWidths, UpdateWidths, SummaryWidths, update_bytes, summary_bytes, laid};
@@ -38,10 +38,6 @@ pub(crate) trait Layout: Copy {
         ensures widths { InWidths (sent self.now) };
 
     ghost size: { (x : Self) → size_of (sent x) ≡ SIZE };
-
-    ghost symbol_read: { (m : List ℕ) → symbol_of (sent (read m)) ≡ cells 8 6 m };
-
-    ghost letter_read: { (m : List ℕ) → letter_of (sent (read m)) ≡ slice_index m 14 };
 }
 
 // `N` bytes from a place on.
@@ -75,10 +71,6 @@ impl Layout for Update {
     ghost sent = { sent_update };
 
     ghost size = { λ _. refl };
-
-    ghost symbol_read = { λ _. refl };
-
-    ghost letter_read = { λ _. refl };
 
     fn read(m: &[u8]) -> Update {
         Update {
@@ -147,10 +139,6 @@ impl Layout for Summary {
     ghost sent = { sent_summary };
 
     ghost size = { λ _. refl };
-
-    ghost symbol_read = { λ _. refl };
-
-    ghost letter_read = { λ _. refl };
 
     fn read(m: &[u8]) -> Summary {
         Summary {

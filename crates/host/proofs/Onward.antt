@@ -18,11 +18,11 @@ pub record Lies (f : List ℕ) (place : ℕ) : Type 0 where
 
 cut_off : (b : Bool) (part : Part) (fault : Fault) (s : Said Part) (a : Notice) → Ok (Some a) ≡ first (toldTo every_type (followed (cond b (Ok part) (Err fault)) s)) → b ≡ true
 cut_off true part fault s a e = refl
-cut_off false part fault s a e = absurd (let z : ◌≡◌ {A = ℕ} 0 1 = cc in omega arith)
+cut_off false part fault s a e = cc
 
 end_silent : (b : Bool) (fault : Fault) (a : Notice) → Ok (Some a) ≡ first (toldTo every_type (cond b (breaks fault) ends)) → ⊥
-end_silent true fault a e = let z : ◌≡◌ {A = ℕ} 0 1 = cc in omega arith
-end_silent false fault a e = let z : ◌≡◌ {A = ℕ} 0 1 = cc in omega arith
+end_silent true fault a e = cc
+end_silent false fault a e = cc
 
 counted_lies : (n place : ℕ) (f : List ℕ) (a : Notice) → Ok (Some a) ≡ first (toldTo every_type (cut_from n place f)) → Lies f place
 counted_lies zero place f a e = absurd (end_silent (ltb place (length f)) (fault_at Leftover place) a e)
@@ -34,7 +34,7 @@ counted_lies (suc n) place f a e =
 
 unbroken_lies : (fault : Option Fault) (n place : ℕ) (f : List ℕ) (a : Notice) → Ok (Some a) ≡ first (elim fault [ None ↦ toldTo every_type (cut_from n place f) | Some why ↦ breaks why ]) → Lies f place
 unbroken_lies None n place f a e = counted_lies n place f a e
-unbroken_lies (Some why) n place f a e = absurd (let z : ◌≡◌ {A = ℕ} 0 1 = cc in omega arith)
+unbroken_lies (Some why) n place f a e = cc
 
 opened_frame : (f : Bor (List ℕ)) (count : Result ℕ Fault) → (let r : Reader = elim count [ Ok n ↦ record { frame = f; place = 8; left = n; fault = None } | Err fault ↦ record { frame = f; place = 8; left = 0; fault = Some fault } ] in r).frame ≡ f
 opened_frame f (Ok n) = refl
@@ -54,7 +54,7 @@ said_lies f place left a e =
     subst (λ (x : Bor (List ℕ)). Lies x.now r.place) (frame_for f place left) (unbroken_lies r.fault r.left r.place r.frame.now a e)
 
 resumed_for : (f : Bor (List ℕ)) (place left : ℕ) (b : Bool) → b ≡ false → cond b (opened f) (resumed f place left) ≡ resumed f place left
-resumed_for f place left true e = absurd (let z : ◌≡◌ {A = ℕ} 0 1 = cc in omega arith)
+resumed_for f place left true e = cc
 resumed_for f place left false e = refl
 
 -- behind a message, the place and the count to pass next give the reader that has moved
@@ -71,12 +71,12 @@ onward_for f place left a e =
 
 -- after the end and after a fault nothing changes
 end_stays : (s : Said Notice) → first s ≡ Ok None → s ≡ later s
-end_stays (says a s) e = absurd (let z : ◌≡◌ {A = ℕ} 0 1 = cc in omega arith)
+end_stays (says a s) e = cc
 end_stays ends e = refl
 end_stays (breaks fault) e = refl
 
 fault_stays : (s : Said Notice) (fault : Fault) → first s ≡ Err fault → s ≡ later s
-fault_stays (says a s) fault e = absurd (let z : ◌≡◌ {A = ℕ} 0 1 = cc in omega arith)
+fault_stays (says a s) fault e = cc
 fault_stays ends fault e = refl
 fault_stays (breaks why) fault e = refl
 

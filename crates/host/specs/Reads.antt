@@ -11,6 +11,8 @@ use Rattle.feed.specs.declared.message.Summary.{Summary}
 use Rattle.feed.specs.declared.message.Update.{Update}
 use Rattle.reader.specs.Reading.{ahead, opened, resumed, moved}
 use Rattle.reader.specs.declared.Reader.{Reader}
+use Rattle.host.specs.declared.reads.Kind.{Kind}
+use Rattle.host.specs.declared.reads.Kind.TheVariants as kind
 use Rattle.host.specs.declared.reads.Told.{Told}
 use Rattle.host.specs.declared.reads.Stand.{Stand}
 
@@ -21,6 +23,15 @@ reader_for f place left = cond (place == 0) (opened f) (resumed f place left)
 -- how a reader's next message stands in its frame: what to pass next, where it begins, and its length
 abbrev pub stand_of : List ℕ → Reader → Stand
 stand_of f r = record { next = (moved r).place; left = (moved r).left; place = r.place; length = slice_index f r.place }
+
+-- the number of a kind
+abbrev pub kind_number : Kind → ℕ
+kind_number kind.End = 0
+kind_number kind.Update = 1
+kind_number kind.Summary = 2
+kind_number kind.Unknown = 3
+kind_number kind.Fault = 4
+kind_number kind.TooFew = 5
 
 -- the number of a layer
 abbrev pub layer_number : Layer → ℕ
@@ -50,15 +61,15 @@ staying place left at = record { next = place; left = left; place = at; length =
 
 -- a message is kind 1, 2 or 3
 abbrev pub notice_told : Stand → Notice → Told
-notice_told at (update u) = record { kind = 1; numbers = update_numbers at u }
-notice_told at (summary s) = record { kind = 2; numbers = summary_numbers at s }
-notice_told at (unknown m) = record { kind = 3; numbers = bare_numbers at 0 0 }
+notice_told at (update u) = record { kind = kind.Update; numbers = update_numbers at u }
+notice_told at (summary s) = record { kind = kind.Summary; numbers = summary_numbers at s }
+notice_told at (unknown m) = record { kind = kind.Unknown; numbers = bare_numbers at 0 0 }
 
 -- an answer of a reader, told to a call with this place and this count; the end is kind 0, a fault kind 4
 abbrev pub answer_told : ℕ → ℕ → Stand → Result (Option Notice) Fault → Told
 answer_told place left at (Ok (Some notice)) = notice_told at notice
-answer_told place left at (Ok None) = record { kind = 0; numbers = bare_numbers (staying place left 0) 0 0 }
-answer_told place left at (Err fault) = record { kind = 4; numbers = bare_numbers (staying place left fault.place) (number_of fault.reason) (layer_number (layer_of fault.reason)) }
+answer_told place left at (Ok None) = record { kind = kind.End; numbers = bare_numbers (staying place left 0) 0 0 }
+answer_told place left at (Err fault) = record { kind = kind.Fault; numbers = bare_numbers (staying place left fault.place) (number_of fault.reason) (layer_number (layer_of fault.reason)) }
 
 -- what a frame has yet to say to a call with this place and this count
 abbrev pub ahead_for : Bor (List ℕ) → ℕ → ℕ → Said Notice
@@ -81,7 +92,7 @@ GoesOn f place left = ahead_for f (next_of (told f place left)) (left_of (told f
 
 -- with too few places for the numbers the kind is 5
 abbrev pub kind_for : Told → List ℕ → ℕ
-kind_for t places = cond (nat_le 18 (length places)) t.kind 5
+kind_for t places = kind_number (cond (nat_le 18 (length places)) t.kind kind.TooFew)
 
 -- the places afterwards: the first eighteen hold the numbers; with fewer, nothing is written
 abbrev pub places_after : Told → List ℕ → List ℕ

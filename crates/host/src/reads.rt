@@ -1,21 +1,37 @@
 // One message of a frame, as a kind and numbers.
-ghost use Rattle.std.specs.Prelude.{◌≡◌, ◌+◌, ◌^◌, ◌<◌};
-ghost use Rattle.feed.specs.Faults.{layer_of};
+ghost use Rattle.std.specs.Prelude.{◌≡◌, ◌+◌, ◌-◌, ◌^◌, ◌<◌, ◌≤◌, ◌∷◌, ◌++◌, length, replicate};
+ghost use Rattle.feed.specs.Faults.{number_of, layer_of};
 ghost use Rattle.feed.specs.Frames.{frame_says};
 ghost use Rattle.feed.specs.Layouts.{every_type};
 ghost use Rattle.feed.specs.Shown.{notice_of};
-ghost use Rattle.host.specs.Reads.{layer_number, update_numbers, summary_numbers, bare_numbers, staying, notice_told, reader_for, ahead_for, told, GoesOn, kind_for, places_after};
+ghost use Rattle.host.specs.Reads.{layer_number, bare_numbers, staying, notice_told, reader_for, ahead_for, told, GoesOn, kind_for, places_after};
 
-use feed::{Fault, Layer, Message, Summary, Update, byte_at};
+use feed::{Fault, Layer, Message, byte_at};
 use reader::Reader;
 
 // How many numbers a call is told.
 const NUMBERS: usize = 18;
 
+// The places of a fault's number and layer.
+const FAULT_NUMBER: usize = 16;
+
+const FAULT_LAYER: usize = 17;
+
+// What a call finds, by the numbers that C knows.
+#[derive(Clone, Copy)]
+enum Kind {
+    End = 0,
+    Update = 1,
+    Summary = 2,
+    Unknown = 3,
+    Fault = 4,
+    TooFew = 5,
+}
+
 // An answer: its kind and its numbers.
-#[derive(Drop)]
+#[derive(Clone, Copy)]
 struct Told {
-    kind: u32,
+    kind: Kind,
     numbers: [u64; NUMBERS],
 }
 
@@ -28,104 +44,43 @@ struct Stand {
     length: u8,
 }
 
-fn layer_number(fault: &Fault) -> u64
-    ensures { result ≡ layer_number (layer_of fault.now.reason) }
+impl Stand {
+    // The numbers of an answer with these fields: how it stands, the fields, and zeros behind them.
+    fn numbers(&self, fields: &[u64]) -> [u64; NUMBERS]
+        requires { length fields.now ≤ 14 }
+        ensures { result ≡ (self.now.next ∷ self.now.left ∷ self.now.place ∷ self.now.length ∷ fields.now) ++ replicate (14 - length fields.now) 0 }
+    {
+        let mut numbers = [0; NUMBERS];
+        numbers[..4].copy_from_slice(&[
+            self.next,
+            u64::from(self.left),
+            self.place,
+            u64::from(self.length),
+        ]);
+        numbers[4..4 + fields.len()].copy_from_slice(fields);
+        numbers
+    }
+}
+
+// By a match: a layer is another crate's, which has no number for it.
+fn layer_number(layer: Layer) -> u64
+    ensures { result ≡ layer_number layer }
 {
-    match fault.layer() {
+    match layer {
         Layer::Frame => 1,
         Layer::Message => 2,
         Layer::Field => 3,
     }
 }
 
-fn update_numbers(at: Stand, u: &Update) -> [u64; NUMBERS]
-    requires { at.place + 6 < 2 ^ 64 }
-    ensures { result ≡ update_numbers at u.now }
+// The numbers of a fault.
+fn fault_numbers(at: Stand, fault: &Fault) -> [u64; NUMBERS]
+    ensures { result ≡ bare_numbers at (number_of fault.now.reason) (layer_number (layer_of fault.now.reason)) }
 {
-    [
-        at.next,
-        at.left as u64,
-        at.place,
-        at.length as u64,
-        at.place + 6,
-        u.offset as u64,
-        u.auction as u64,
-        u.reference,
-        0,
-        u.buy as u64,
-        u.sell as u64,
-        u.indicative,
-        u.auction_only,
-        u.condition as u64,
-        u.bid,
-        u.offer,
-        0,
-        0,
-    ]
-}
-
-fn summary_numbers(at: Stand, s: &Summary) -> [u64; NUMBERS]
-    requires { at.place + 6 < 2 ^ 64 }
-    ensures { result ≡ summary_numbers at s.now }
-{
-    [
-        at.next,
-        at.left as u64,
-        at.place,
-        at.length as u64,
-        at.place + 6,
-        s.offset as u64,
-        s.auction as u64,
-        s.price,
-        s.contracts as u64,
-        0,
-        0,
-        0,
-        0,
-        0,
-        0,
-        0,
-        0,
-        0,
-    ]
-}
-
-// The numbers of an answer without fields.
-fn bare_numbers(at: Stand, fault: u8, layer: u64) -> [u64; NUMBERS]
-    ensures { result ≡ bare_numbers at fault layer }
-{
-    [
-        at.next,
-        at.left as u64,
-        at.place,
-        at.length as u64,
-        0,
-        0,
-        0,
-        0,
-        0,
-        0,
-        0,
-        0,
-        0,
-        0,
-        0,
-        0,
-        fault as u64,
-        layer,
-    ]
-}
-
-// Where there is no message, what to pass next is what was passed.
-fn stay(place: u64, left: u8, at: usize) -> Stand
-    ensures { result ≡ staying place left at }
-{
-    Stand {
-        next: place,
-        left,
-        place: at as u64,
-        length: 0,
-    }
+    let mut numbers = at.numbers(&[]);
+    numbers[FAULT_NUMBER] = u64::from(fault.number());
+    numbers[FAULT_LAYER] = layer_number(fault.layer());
+    numbers
 }
 
 // A message, told.
@@ -135,68 +90,104 @@ fn message_told(at: Stand, message: &Message) -> Told
 {
     match message {
         Message::Update(u) => Told {
-            kind: 1,
-            numbers: update_numbers(at, u),
+            kind: Kind::Update,
+            numbers: at.numbers(&[
+                at.place + 6,
+                u64::from(u.offset),
+                u64::from(u.auction),
+                u.reference,
+                0,
+                u64::from(u.buy),
+                u64::from(u.sell),
+                u.indicative,
+                u.auction_only,
+                u64::from(u.condition),
+                u.bid,
+                u.offer,
+            ]),
         },
         Message::Summary(s) => Told {
-            kind: 2,
-            numbers: summary_numbers(at, s),
+            kind: Kind::Summary,
+            numbers: at.numbers(&[
+                at.place + 6,
+                u64::from(s.offset),
+                u64::from(s.auction),
+                s.price,
+                u64::from(s.contracts),
+            ]),
         },
         Message::Unknown(_) => Told {
-            kind: 3,
-            numbers: bare_numbers(at, 0, 0),
+            kind: Kind::Unknown,
+            numbers: at.numbers(&[]),
         },
     }
 }
 
-// The reader that a call goes on with; place 0 starts the frame.
-fn reader_for<'a>(frame: &'a [u8], place: u64, left: u8) -> Reader<'a>
-    ensures { result ≡ reader_for frame.entry place left }
-{
-    if place == 0 {
-        Reader::new(frame)
-    } else {
-        Reader::resume(frame, place as usize, left)
-    }
+// A call: the frame, and the place and the count that are passed.
+#[derive(Clone, Copy)]
+struct Call<'a> {
+    frame: &'a [u8],
+    place: u64,
+    left: u8,
 }
 
-// What a call is told.
-fn read(frame: &[u8], place: u64, left: u8) -> Told
-    ensures { result ≡ told frame.entry place left }
-{
-    let mut reader = reader_for(frame, place, left);
-    let (begin, _) = reader.position();
-    let answer = reader.next();
-    let (next, rest) = reader.position();
-    match answer {
-        Ok(message) => match message {
-            None => Told {
-                kind: 0,
-                numbers: bare_numbers(stay(place, left, 0), 0, 0),
-            },
-            Some(message) => message_told(
-                Stand {
+impl<'a> Call<'a> {
+    // The reader that the call goes on with; place 0 starts the frame.
+    fn reader(&self) -> Reader<'a>
+        ensures { result ≡ reader_for self.now.frame self.now.place self.now.left }
+    {
+        if self.place == 0 {
+            Reader::new(self.frame)
+        } else {
+            Reader::resume(self.frame, self.place as usize, self.left)
+        }
+    }
+
+    // Where there is no message, what to pass next is what was passed.
+    fn stay(&self, at: usize) -> Stand
+        ensures { result ≡ staying self.now.place self.now.left at }
+    {
+        Stand {
+            next: self.place,
+            left: self.left,
+            place: at as u64,
+            length: 0,
+        }
+    }
+
+    // What the call is told.
+    fn told(&self) -> Told
+        ensures { result ≡ told self.now.frame self.now.place self.now.left }
+    {
+        let mut reader = self.reader();
+        let (begin, _) = reader.position();
+        let answer = reader.next();
+        let (next, left) = reader.position();
+        match answer {
+            Ok(Some(message)) => {
+                let at = Stand {
                     next: next as u64,
-                    left: rest,
+                    left,
                     place: begin as u64,
-                    length: byte_at(frame, begin),
-                },
-                &message,
-            ),
-        },
-        Err(fault) => Told {
-            kind: 4,
-            numbers: bare_numbers(
-                stay(place, left, fault.place),
-                fault.number(),
-                layer_number(&fault),
-            ),
-        },
+                    length: byte_at(self.frame, begin),
+                };
+                message_told(at, &message)
+            }
+            Ok(None) => Told {
+                kind: Kind::End,
+                numbers: self.stay(0).numbers(&[]),
+            },
+            Err(fault) => Told {
+                kind: Kind::Fault,
+                numbers: fault_numbers(self.stay(fault.place), &fault),
+            },
+        }
     }
 }
 
 // Reads one message of a frame into the first places of `numbers`.
 #[unsafe(no_mangle)]
+#[tactic(auto, using(crate::proofs::Onward::starts, crate::proofs::Onward::goes_on))]
 pub extern "C" fn opening_read(frame: &[u8], place: u64, left: u8, numbers: &mut [u64]) -> u32
     ensures answer { result ≡ kind_for (told frame.entry place left) numbers.old }
     ensures after { numbers.new ≡ places_after (told frame.entry place left) numbers.old }
@@ -204,9 +195,9 @@ pub extern "C" fn opening_read(frame: &[u8], place: u64, left: u8, numbers: &mut
     ensures goes_on { GoesOn frame.entry place left }
 {
     if numbers.len() < NUMBERS {
-        return 5;
+        return Kind::TooFew as u32;
     }
-    let told = read(frame, place, left);
-    numbers[0..NUMBERS].copy_from_slice(&told.numbers);
-    told.kind
+    let told = Call { frame, place, left }.told();
+    numbers[..NUMBERS].copy_from_slice(&told.numbers);
+    told.kind as u32
 }

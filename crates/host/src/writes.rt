@@ -9,24 +9,19 @@ use feed::{Summary, Update};
 use writer::Refusal;
 
 // 0, or the refusal's number.
-fn answer_of(res: Result<(), Refusal>) -> u32
-    ensures { result ≡ answer_of (refused res) }
+fn answer_of(outcome: Result<(), Refusal>) -> u32
+    ensures { result ≡ answer_of (refused outcome) }
 {
-    match res {
-        Ok(_) => 0,
-        Err(refusal) => refusal.number() as u32,
-    }
+    outcome
+        .err()
+        .map_or(0, |refusal| u32::from(refusal.number()))
 }
 
 // The eight bytes of a symbol; eight zero bytes, which are unfit, where it has another length.
 fn symbol_of(symbol: &[u8]) -> [u8; 8]
     ensures { result ≡ symbol_of symbol.now }
 {
-    let mut eight = [0; 8];
-    if symbol.len() == 8 {
-        eight.copy_from_slice(symbol);
-    }
-    eight
+    symbol.try_into().unwrap_or([0; 8])
 }
 
 // Begins a frame without a message.

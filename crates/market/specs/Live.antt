@@ -7,7 +7,7 @@ use Rattle.market.specs.declared.refusal.Refusal.TheVariants.{Unfit}
 
 -- its two sides
 abbrev pub sides : LivePair → Pair
-sides m = (m.bid, m.offer)
+sides m = m.sides
 
 -- why a pair cannot be set, if so: a side that is given is no market price
 abbrev pub set_refusal : Pair → Option Refusal

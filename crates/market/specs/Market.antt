@@ -22,6 +22,10 @@ abbrev pub side_fit : Option ℕ → Bool
 side_fit None = true
 side_fit (Some p) = is_price p
 
+-- both sides of a pair are so
+abbrev pub sides_fit : Pair → Bool
+sides_fit m = side_fit m.0 && side_fit m.1
+
 -- what every market keeps: each side that is there is a market price
 abbrev pub Fit : {X : Type 0} → (X → Pair) → Type 0
 Fit {X} means = (m : X) → Side (means m).0 × Side (means m).1

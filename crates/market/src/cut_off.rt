@@ -9,6 +9,7 @@ use crate::market::OutsideMarket;
 #[derive(Clone, Copy)]
 pub struct CutOff<M> {
     pub below: M,
+    // a flag: an enum round the market below would put it out of reach once closed
     closed: bool,
 }
 

@@ -6,13 +6,13 @@ ghost use Rattle.market.specs.Market.{Pair, Fit};
 pub trait OutsideMarket {
     ghost means: { Self → Pair };
 
-    // each side that is there is a market price
-    ghost fit: { Fit means };
-
     // The bid and the offer.
     fn ask(&self) -> (Option<u64>, Option<u64>)
         ensures answer { result ≡ means self.now }
         ensures unchanged { self.exit.now ≡ self.entry.now };
+
+    // Each side that is there is a market price.
+    ghost fit: { Fit means };
 }
 
 // A market that is lent is that market.

@@ -5,9 +5,9 @@ ghost use Rattle.market.specs.Refusals.{number_of};
 #[derive(Clone, Copy, Debug, PartialEq)]
 pub enum Refusal {
     // the exchange is not in the list, and the list has no free place
-    NoFreePlace,
+    NoFreePlace = 7,
     // an exchange's letter or a price is unfit
-    Unfit,
+    Unfit = 41,
 }
 
 impl Refusal {
@@ -15,9 +15,6 @@ impl Refusal {
     pub fn number(&self) -> u8
         ensures { result ≡ number_of self.now }
     {
-        match self {
-            Refusal::NoFreePlace => 7,
-            Refusal::Unfit => 41,
-        }
+        *self as u8
     }
 }

@@ -1,10 +1,37 @@
 // The tighter of two markets.
-ghost use Rattle.std.specs.Prelude.{◌≡◌};
+ghost use Rattle.std.specs.Prelude.{◌≡◌, MatchOption, IsSomeAnd};
 ghost use Rattle.market.specs.Fits.{fit-tighter};
 ghost use Rattle.market.specs.Market.{tighter};
 
 use crate::market::OutsideMarket;
-use crate::price::{higher_of, lower_of};
+
+// One of two sides where both are there, as `choose` says, or else the one that is there, if any.
+fn merged<F: FnOnce(u64, u64) -> u64>(
+    one: Option<u64>,
+    other: Option<u64>,
+    choose: F,
+) -> Option<u64>
+    requires { F.IsAlwaysCallable choose }
+    ensures { MatchOption one (result ≡ other) (λ x. MatchOption other (result ≡ one) (λ y. IsSomeAnd result (F.post choose x y))) }
+{
+    match (one, other) {
+        (Some(x), Some(y)) => Some(choose(x, y)),
+        (side, None) | (None, side) => side,
+    }
+}
+
+// The tighter of two pairs.
+fn tighter_of(
+    one: (Option<u64>, Option<u64>),
+    other: (Option<u64>, Option<u64>),
+) -> (Option<u64>, Option<u64>)
+    ensures { result ≡ tighter one other }
+{
+    (
+        merged(one.0, other.0, u64::max),
+        merged(one.1, other.1, u64::min),
+    )
+}
 
 // The higher bid and the lower offer of two markets, none only if both lack that side.
 #[derive(Clone, Copy)]
@@ -19,9 +46,7 @@ impl<A: OutsideMarket, B: OutsideMarket> OutsideMarket for Tighter<A, B> {
     ghost fit = { λ m. fit-tighter (A.OutsideMarket.means m.one) (B.OutsideMarket.means m.other) (A.OutsideMarket.fit m.one) (B.OutsideMarket.fit m.other) };
 
     fn ask(&self) -> (Option<u64>, Option<u64>) {
-        let (bid, offer) = self.one.ask();
-        let (other_bid, other_offer) = self.other.ask();
-        (higher_of(bid, other_bid), lower_of(offer, other_offer))
+        tighter_of(self.one.ask(), self.other.ask())
     }
 }
 
@@ -33,6 +58,5 @@ pub fn composite<M: OutsideMarket>(
 ) -> (Option<u64>, Option<u64>)
     ensures { result ≡ tighter (bid, offer) (M.OutsideMarket.means market.now) }
 {
-    let (away_bid, away_offer) = market.ask();
-    (higher_of(bid, away_bid), lower_of(offer, away_offer))
+    tighter_of((bid, offer), market.ask())
 }

@@ -1,45 +1,67 @@
 -- Fills from a place on, share by share, and that they keep the order of rank.
-use Rattle.std.proofs.Common.{◌≡◌, ℕ, zero, suc, ◌+◌, ◌-◌, ◌<◌, min, Bool, not, ◌&&◌, List, [], ◌∷◌, ◌++◌, length, get_or, take, drop, set, sym, refl, ap, ◌∙◌, inl, inr, add-one, arith, length-drop}
-use Rattle.std.specs.List.{list_all}
-use Rattle.std.proofs.lemmas.List.{take_all, take-append-drop, length-take-le, set-append_right, get_or-append_right}
-use Rattle.std.proofs.lemmas.Bool.{cases_lt}
-use Rattle.ranked.specs.Level.{fills, filled_from}
+use Rattle.std.proofs.Common.{◌≡◌, ℕ, zero, suc, ◌-◌, ◌<◌, ◌≤◌, Bool, not, ◌&&◌, List, [], ◌∷◌, ◌++◌, length, get_or, take, drop, set, sym, refl, ap, ◌∙◌, arith}
+use borrow.Rule.Slice.PartMut.{put_mid}
+use Rattle.std.specs.List.{list_all, between}
+use Rattle.std.proofs.lemmas.List.{take-append-drop, take_at}
+use Rattle.std.proofs.lemmas.List.Edits.{length-between}
+use Rattle.ranked.specs.Level.{level_at, fills, filled_from, filled_level}
 use Rattle.ranked.specs.Order.{in_rank}
+use Rattle.ranked.proofs.Levels.{level_none}
 
 pub fills_none : {X : Type 0} (f : X → ℕ → X) (xs : List X) → fills f xs [] ≡ xs
 fills_none f [] = refl
 fills_none f (x ∷ xs) = refl
 
-pub filled_none : {X : Type 0} (f : X → ℕ → X) (at : ℕ) (xs : List X) → xs ≡ filled_from f at [] xs
-filled_none f at xs = sym (ap (λ ys. take at xs ++ ys) (fills_none f (drop at xs)) ∙ take-append-drop at xs)
-
-fills_suc :
+-- one share more
+pub fills_more :
     {X : Type 0} (f : X → ℕ → X) (xs : List X) (ns : List ℕ) (j : ℕ) (x : X) → j < length ns → j < length xs → x ≡ get_or (fills f xs (take j ns)) j x →
     set (fills f xs (take j ns)) j (f x (get_or ns j 0)) ≡ fills f xs (take (suc j) ns)
-fills_suc f [] ns j x lt lx e = absurd (omega arith)
-fills_suc f (y ∷ xs) [] j x lt lx e = absurd (omega arith)
-fills_suc f (y ∷ xs) (n ∷ ns) zero x lt lx e = let z = fills_none f xs in cc
-fills_suc f (y ∷ xs) (n ∷ ns) (suc j) x lt lx e = ap (λ l. f y n ∷ l) (fills_suc f xs ns j x (omega arith) (omega arith) e)
+fills_more f [] ns j x lt lx e = absurd (omega arith)
+fills_more f (y ∷ xs) [] j x lt lx e = absurd (omega arith)
+fills_more f (y ∷ xs) (n ∷ ns) zero x lt lx e = let z = fills_none f xs in cc
+fills_more f (y ∷ xs) (n ∷ ns) (suc j) x lt lx e = ap (λ l. f y n ∷ l) (fills_more f xs ns j x (omega arith) (omega arith) e)
 
--- one share more
-pub filled_more :
-    {X : Type 0} (f : X → ℕ → X) (at : ℕ) (xs : List X) (ns : List ℕ) (j : ℕ) (x : X) → j < length ns → at + j < length xs →
-    x ≡ get_or (filled_from f at (take j ns) xs) (at + j) x →
-    set (filled_from f at (take j ns) xs) (at + j) (f x (get_or ns j 0)) ≡ filled_from f at (take (j + 1) ns) xs
-filled_more {X} f at xs ns j x lt lx e =
-    let la : length (take at xs) ≡ at = length-take-le at xs (omega arith) in
-    let k : at + j - at ≡ j = omega arith in
-    let F : List X = fills f (drop at xs) (take j ns) in
-    let here : x ≡ get_or F j x = e ∙ get_or-append_right (take at xs) F at (at + j) x la (omega arith) ∙ ap (λ i. get_or F i x) k in
-    set-append_right (take at xs) F at (at + j) (f x (get_or ns j 0)) la (omega arith)
-    ∙ ap (λ i. take at xs ++ set F i (f x (get_or ns j 0))) k
-    ∙ ap (λ ys. take at xs ++ ys) (fills_suc f (drop at xs) ns j x lt (omega (arith, length-drop at xs)) here)
-    ∙ ap (λ i. take at xs ++ fills f (drop at xs) (take i ns)) (sym (add-one j))
+-- shares past the end fill nothing
+pub fills_all : {X : Type 0} (f : X → ℕ → X) (xs : List X) (k : ℕ) (ns : List ℕ) → length xs ≤ k → fills f xs (take k ns) ≡ fills f xs ns
+fills_all f [] k ns le = refl
+fills_all f (x ∷ xs) zero ns le = absurd (omega arith)
+fills_all f (x ∷ xs) (suc k) [] le = refl
+fills_all f (x ∷ xs) (suc k) (n ∷ ns) le = ap (λ ys. f x n ∷ ys) (fills_all f xs k ns (omega arith))
 
-pub length-fills : {X : Type 0} (f : X → ℕ → X) (xs : List X) (ns : List ℕ) → length (fills f xs ns) ≡ length xs
+-- what is filled at the front of a list, and what stands behind it
+pub fills_front : {X : Type 0} (f : X → ℕ → X) (xs : List X) (k : ℕ) (ns : List ℕ) → fills f xs (take k ns) ≡ fills f (take k xs) ns ++ drop k xs
+fills_front f xs zero ns = fills_none f xs
+fills_front f [] (suc k) ns = refl
+fills_front f (x ∷ xs) (suc k) [] = ap (λ ys. x ∷ ys) (sym (take-append-drop k xs))
+fills_front f (x ∷ xs) (suc k) (n ∷ ns) = ap (λ ys. f x n ∷ ys) (fills_front f xs k ns)
+
+-- a part from a place on, filled
+filled_part : {X : Type 0} (f : X → ℕ → X) (at size : ℕ) (xs : List X) (ns : List ℕ) (p : List X) → p ≡ fills f (take size (drop at xs)) ns → put_mid at size xs p ≡ filled_from f at (take size ns) xs
+filled_part f at size xs ns p e = ap (λ ys. take at xs ++ (ys ++ drop size (drop at xs))) e ∙ ap (λ ys. take at xs ++ ys) (sym (fills_front f (drop at xs) size ns))
+
+-- past the end nothing is filled
+pub filled_past : {X : Type 0} (b : X → X → Bool) (f : X → ℕ → X) (at : ℕ) (xs : List X) (ns : List ℕ) → length xs ≤ at → filled_level b f at ns xs ≡ xs
+filled_past b f at xs ns le =
+    ap (λ l. filled_from f at (take (length l) ns) xs) (sym (level_none b xs at le)) ∙ ap (λ ys. take at xs ++ ys) (fills_none f (drop at xs)) ∙ take-append-drop at xs
+
+length-fills : {X : Type 0} (f : X → ℕ → X) (xs : List X) (ns : List ℕ) → length (fills f xs ns) ≡ length xs
 length-fills f [] ns = refl
 length-fills f (x ∷ xs) [] = refl
 length-fills f (x ∷ xs) (n ∷ ns) = ap suc (length-fills f xs ns)
+
+length-filled : {X : Type 0} (f : X → ℕ → X) (at : ℕ) (ns : List ℕ) (xs : List X) → length (filled_from f at ns xs) ≡ length xs
+length-filled f zero ns xs = length-fills f xs ns
+length-filled f (suc at) ns [] = length-fills f [] ns
+length-filled f (suc at) ns (x ∷ xs) = ap suc (length-filled f at ns xs)
+
+-- a list whose level from a place on is filled, before the places behind it
+pub filled_front :
+    {X : Type 0} (b : X → X → Bool) (f : X → ℕ → X) (at end n : ℕ) (xs rest : List X) (ns : List ℕ) (p : List X) → length xs ≡ n → end ≤ n →
+    between at end xs ≡ level_at b at xs → p ≡ fills f (between at end xs) ns → take n (put_mid at (end - at) xs p ++ rest) ≡ filled_level b f at ns xs
+filled_front b f at end n xs rest ns p l le part e =
+    let size : end - at ≡ length (level_at b at xs) = omega (arith, ap length part, length-between xs at end (omega arith)) in
+    let q : put_mid at (end - at) xs p ≡ filled_level b f at ns xs = filled_part f at (end - at) xs ns p e ∙ ap (λ k. filled_from f at (take k ns) xs) size in
+    take_at (put_mid at (end - at) xs p) rest n (ap length q ∙ length-filled f at (take (length (level_at b at xs)) ns) xs ∙ l) ∙ q
 
 module _ {X : Type 0} (b : X → X → Bool) (f : X → ℕ → X) (keeps : (x y : X) (n : ℕ) → (b (f x n) y ≡ b x y) × (b y (f x n) ≡ b y x)) where
   pass_fills : (z : X) (xs : List X) (ns : List ℕ) → list_all (λ y. not (b y z)) (fills f xs ns) ≡ list_all (λ y. not (b y z)) xs
@@ -65,11 +87,3 @@ module _ {X : Type 0} (b : X → X → Bool) (f : X → ℕ → X) (keeps : (x y
   filled_in_rank zero ns xs = fills_in_rank xs ns
   filled_in_rank (suc at) ns [] = refl
   filled_in_rank (suc at) ns (x ∷ xs) = λ i. pass_filled x at ns xs i && filled_in_rank at ns xs i
-
--- as many as both have: a part of the list
-pub take_least : (ns : List ℕ) (k m : ℕ) → m ≡ min k (length ns) → take (m - 0) ns ≡ take k ns
-take_least ns k m e =
-    elim (cases_lt k (length ns)) [
-      | inl lt ↦ let q : m - 0 ≡ k = omega arith in ap (λ i. take i ns) q
-      | inr le ↦ take_all (m - 0) ns (omega arith) ∙ sym (take_all k ns le)
-    ]

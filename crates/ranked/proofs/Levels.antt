@@ -1,38 +1,25 @@
 -- The levels of a list, entry by entry, and that in the order of rank a level is all that is level.
-use Rattle.std.proofs.Common.{◌≡◌, ℕ, zero, suc, ◌+◌, ◌<◌, ◌≤◌, Bool, true, false, not, List, [], ◌∷◌, ◌++◌, length, get_or, drop, filter, sym, refl, ap, ◌∙◌, subst, ⊎_elim, arith}
-use Rattle.std.specs.List.{list_all, between}
-use Rattle.std.proofs.lemmas.List.Edits.{between_none, between_more}
-use Rattle.std.proofs.lemmas.List.{append_assoc, append-nil, drop_more, at_drop_more, at_drop_all}
+use Rattle.std.proofs.Common.{◌≡◌, ℕ, zero, suc, ◌+◌, ◌-◌, ◌<◌, ◌≤◌, Bool, true, false, cond, not, List, [], ◌∷◌, ◌++◌, length, get_or, take, drop, filter, Some, sym, refl, ap, ◌∙◌, ⊎_elim, one-add, arith}
+use Rattle.std.specs.List.{list_all, prefix_len, slice_get, sum_by, between}
+use Rattle.std.specs.List.Sorted.{IsPartitionedBy, IsPartitionPoint}
+use Rattle.std.proofs.lemmas.List.{at_drop_all}
+use Rattle.std.proofs.lemmas.List.Sums.{prefix_len_is, sum_by-cons}
 use Rattle.std.proofs.lemmas.Bool.{cond-true, cond-false, cond_both, cases_Bool, and_parts, and_left, not-true, not_from_true, not_from_false, both_ways}
 use Rattle.ranked.specs.Level.{not_worse, first_level, level_at, level_with}
 use Rattle.ranked.specs.Order.{level, entered, in_its_place, in_rank}
+use Rattle.ranked.specs.Totals.{total}
 use Rattle.ranked.proofs.Kept.{level_from, level_parts}
 
-module _ {X : Type 0} (b : X → X → Bool) (x : X) (xs : List X) (at : ℕ) where
-  pub level_start : at < length xs → x ≡ get_or xs at x → between at (at + 1) xs ++ not_worse b x (drop (at + 1) xs) ≡ level_at b at xs
-  level_start lt e =
-      ap (λ ys. ys ++ not_worse b x (drop (at + 1) xs)) (between_more xs at at x (omega arith) lt ∙ ap (λ ys. ys ++ get_or xs at x ∷ []) (between_none xs at))
-      ∙ ap (λ v. get_or xs at x ∷ not_worse b v (drop (at + 1) xs)) e
-      ∙ sym (ap (first_level b) (drop_more xs at x lt))
-
-  -- an entry that is not worse belongs to the level
-  pub level_on : (i : ℕ) (y : X) → at ≤ i → i < length xs → y ≡ get_or xs i y → b x y ≡ false →
-      between at (i + 1) xs ++ not_worse b x (drop (i + 1) xs) ≡ between at i xs ++ not_worse b x (drop i xs)
-  level_on i y le lt e f =
-      ap (λ ys. ys ++ not_worse b x (drop (i + 1) xs)) (between_more xs at i y le lt)
-      ∙ append_assoc (between at i xs) (get_or xs i y ∷ []) (not_worse b x (drop (i + 1) xs))
-      ∙ ap (λ ys. between at i xs ++ ys)
-      (sym (at_drop_more (not_worse b x) xs i y lt ∙ cond-false (b x (get_or xs i y)) [] (get_or xs i y ∷ not_worse b x (drop (i + 1) xs)) (subst (λ v. b x v ≡ false) e f)))
-
-  -- one that is worse ends it
-  pub level_stop : (i : ℕ) (y : X) → i < length xs → y ≡ get_or xs i y → b x y ≡ true → between at i xs ≡ between at i xs ++ not_worse b x (drop i xs)
-  level_stop i y lt e t =
-      sym (ap (λ ys. between at i xs ++ ys)
-      (at_drop_more (not_worse b x) xs i y lt ∙ cond-true (b x (get_or xs i y)) [] (get_or xs i y ∷ not_worse b x (drop (i + 1) xs)) (subst (λ v. b x v ≡ true) e t))
-      ∙ append-nil (between at i xs))
-
-  pub level_end : (i : ℕ) → length xs ≤ i → between at i xs ≡ between at i xs ++ not_worse b x (drop i xs)
-  level_end i le = sym (ap (λ ys. between at i xs ++ ys) (at_drop_all (not_worse b x) xs i le) ∙ append-nil (between at i xs))
+-- what x does not beat at the front of a list
+front_not_worse : {X : Type 0} (b : X → X → Bool) (x : X) (xs : List X) → take (prefix_len (λ y. not (b x y)) xs) xs ≡ not_worse b x xs
+front_not_worse b x [] = refl
+front_not_worse b x (y ∷ ys) = by (b x y) (front_not_worse b x ys)
+  where
+    by :
+        (t : Bool) → take (prefix_len (λ z. not (b x z)) ys) ys ≡ not_worse b x ys →
+        take (cond (not t) (1 + prefix_len (λ z. not (b x z)) ys) 0) (y ∷ ys) ≡ cond t [] (y ∷ not_worse b x ys)
+    by true h = refl
+    by false h = ap (λ i. take i (y ∷ ys)) (one-add (prefix_len (λ z. not (b x z)) ys)) ∙ ap (λ zs. y ∷ zs) h
 
 pub level_none : {X : Type 0} (b : X → X → Bool) (xs : List X) (at : ℕ) → length xs ≤ at → [] ≡ level_at b at xs
 level_none b xs at le = sym (at_drop_all (first_level b) xs at le)
@@ -49,6 +36,15 @@ length-first b (x ∷ xs) = omega (arith, length_not_worse b x xs)
 pub length-level : {X : Type 0} (b : X → X → Bool) (at : ℕ) (xs : List X) → length (level_at b at xs) ≤ length (drop at xs)
 length-level b at xs = length-first b (drop at xs)
 
+pub prefix_from_point :
+    {X : Type 0} (p : X → Bool) (xs : List X) (n : ℕ) (d : X) → n ≤ length xs → IsPartitionPoint (λ y. p y ≡ true) (λ y. p y ≡ false) xs n → n ≡ prefix_len p xs
+prefix_from_point p xs n d le point = sym (prefix_len_is p xs n d le (λ k l. point.0 k d (omega arith) l) (λ l. point.1 n d (omega arith) l))
+
+passes_at : {X : Type 0} (p : X → Bool) (xs : List X) (i : ℕ) (d : X) → i < length xs → list_all p xs ≡ true → p (get_or xs i d) ≡ true
+passes_at p [] i d lt h = absurd (omega arith)
+passes_at p (x ∷ xs) zero d lt h = (and_parts (p x) (list_all p xs) h).0
+passes_at p (x ∷ xs) (suc i) d lt h = passes_at p xs i d (omega arith) (and_parts (p x) (list_all p xs) h).1
+
 -- In the order of rank, what is not worse at the front is all that is level.
 module _ {X : Type 0} (b : X → X → Bool) (apart : (x y : X) → b x y ≡ true → b y x ≡ false) (carries : (x y z : X) → b x y ≡ true → b y z ≡ true → b x z ≡ true)
     (levels : (x y z : X) → level b x y ≡ true → level b y z ≡ true → level b x z ≡ true) where
@@ -63,16 +59,29 @@ module _ {X : Type 0} (b : X → X → Bool) (apart : (x y : X) → b x y ≡ tr
       (cases_Bool (b x z))
 
   -- behind one that is worse than x all are worse
+  worse_behind : (x y z : X) → b x y ≡ true → b z y ≡ false → b x z ≡ true
+  worse_behind x y z t zy = worse x y z t zy (⊎_elim (λ u. absurd (both_ways (b z y) zy (carries z x y u t))) (λ f. f) (cases_Bool (b z x)))
+
   all_worse : (x y : X) (zs : List X) → b x y ≡ true → list_all (λ z. not (b z y)) zs ≡ true → (filter (λ z. not (b x z)) zs ≡ []) × (filter (b x) zs ≡ zs)
   all_worse x y [] t h = (refl, refl)
   all_worse x y (z ∷ zs) t h =
       let p = and_parts (not (b z y)) (list_all (λ w. not (b w y)) zs) h in
-      let zy = not-true (b z y) p.0 in
-      let w = worse x y z t zy (⊎_elim (λ u. absurd (both_ways (b z y) zy (carries z x y u t))) (λ f. f) (cases_Bool (b z x))) in
+      let w = worse_behind x y z t (not-true (b z y) p.0) in
       let r = all_worse x y zs t p.1 in (
         cond-false (not (b x z)) (z ∷ filter (λ v. not (b x v)) zs) (filter (λ v. not (b x v)) zs) (not_from_true (b x z) w) ∙ r.0,
         cond-true (b x z) (z ∷ filter (b x) zs) (filter (b x) zs) w ∙ ap (λ l. z ∷ l) r.1,
       )
+
+  -- in the order of rank, what x does not beat comes before all that it beats
+  pub parted : (x : X) (xs : List X) → in_rank b xs ≡ true → IsPartitionedBy (λ y. not (b x y)) xs
+  parted x [] h i j d le lt p = absurd (omega arith)
+  parted x (y ∷ ys) h zero zero d le lt p = p
+  parted x (y ∷ ys) h zero (suc j) d le lt p =
+      let a = and_parts (list_all (λ z. not (b z y)) ys) (in_rank b ys) h in
+      let zy = not-true (b (get_or ys j d) y) (passes_at (λ z. not (b z y)) ys j d (omega arith) a.0) in
+      ⊎_elim (λ t. absurd (both_ways (b x (get_or ys j d)) (not-true (b x (get_or ys j d)) p) (worse_behind x y (get_or ys j d) t zy))) (λ f. not_from_false (b x y) f) (cases_Bool (b x y))
+  parted x (y ∷ ys) h (suc i) zero d le lt p = absurd (omega arith)
+  parted x (y ∷ ys) h (suc i) (suc j) d le lt p = parted x ys (and_parts (list_all (λ z. not (b z y)) ys) (in_rank b ys) h).1 i j d (omega arith) (omega arith) p
 
   -- a new entry goes behind all that are better or level, and before all that are worse
   pub entered_splits : (x : X) (xs : List X) → in_rank b xs ≡ true → entered b x xs ≡ in_its_place b x xs
@@ -118,6 +127,32 @@ module _ {X : Type 0} (b : X → X → Bool) (apart : (x y : X) → b x y ≡ tr
   alone : (x : X) → b x x ≡ false
   alone x = ⊎_elim (λ t. apart x x t) (λ f. f) (cases_Bool (b x x))
 
+  -- what stands before a place is not worse than what stands there
+  not_beaten : (x y : X) (ys : List X) (at : ℕ) → list_all (λ z. not (b z y)) ys ≡ true → Some x ≡ slice_get ys at → not (b x y) ≡ true
+  not_beaten x y [] at h e = absurd cc
+  not_beaten x y (z ∷ zs) zero h e = let q : z ≡ x = cc in ap (λ v. not (b v y)) (sym q) ∙ (and_parts (not (b z y)) (list_all (λ w. not (b w y)) zs) h).0
+  not_beaten x y (z ∷ zs) (suc at) h e = not_beaten x y zs at (and_parts (not (b z y)) (list_all (λ w. not (b w y)) zs) h).1 e
+
+  -- the level of what stands at a place ends where another such entry would go
+  pub level_is :
+      (at : ℕ) (x : X) (xs : List X) → in_rank b xs ≡ true → Some x ≡ slice_get xs at →
+      (at < prefix_len (λ y. not (b x y)) xs) × (between at (prefix_len (λ y. not (b x y)) xs) xs ≡ level_at b at xs)
+  level_is zero x [] h e = absurd cc
+  level_is zero x (y ∷ ys) h e =
+      let k = prefix_len (λ z. not (b x z)) ys in
+      let q : x ≡ y = cc in
+      let n : prefix_len (λ z. not (b x z)) (y ∷ ys) ≡ 1 + k = cond-true (not (b x y)) (1 + k) 0 (not_from_false (b x y) (ap (b x) (sym q) ∙ alone x)) in
+      let m : prefix_len (λ z. not (b x z)) (y ∷ ys) - 0 ≡ suc k = omega (arith, n) in
+      (omega (arith, n), ap (λ j. take j (y ∷ ys)) m ∙ ap (λ l. y ∷ l) (front_not_worse b x ys) ∙ ap (λ v. y ∷ not_worse b v ys) q)
+  level_is (suc at) x [] h e = absurd cc
+  level_is (suc at) x (y ∷ ys) h e =
+      let k = prefix_len (λ z. not (b x z)) ys in
+      let p = and_parts (list_all (λ z. not (b z y)) ys) (in_rank b ys) h in
+      let n : prefix_len (λ z. not (b x z)) (y ∷ ys) ≡ 1 + k = cond-true (not (b x y)) (1 + k) 0 (not_beaten x y ys at p.0 e) in
+      let r = level_is at x ys p.1 e in
+      let m : prefix_len (λ z. not (b x z)) (y ∷ ys) - suc at ≡ k - at = omega (arith, n) in
+      (omega (arith, n, r.0), ap (λ j. take j (drop at ys)) m ∙ r.1)
+
   pub level_whole : (at : ℕ) (xs : List X) → in_rank b xs ≡ true → level_at b at xs ≡ level_with b at xs
   level_whole zero [] h = refl
   level_whole zero (x ∷ xs) h =
@@ -126,3 +161,7 @@ module _ {X : Type 0} (b : X → X → Bool) (apart : (x y : X) → b x y ≡ tr
       ∙ sym (cond-true (level b x x) (x ∷ filter (level b x) xs) (filter (level b x) xs) (level_from b x x (alone x) (alone x)))
   level_whole (suc at) [] h = refl
   level_whole (suc at) (x ∷ xs) h = level_whole at xs (and_parts (list_all (λ z. not (b z x)) xs) (in_rank b xs) h).1
+
+pub total_is : {X : Type 0} (f : X → ℕ) (xs : List X) → total f xs ≡ sum_by f xs
+total_is f [] = refl
+total_is f (x ∷ xs) = ap (λ n. f x + n) (total_is f xs) ∙ sym (sum_by-cons f x xs)

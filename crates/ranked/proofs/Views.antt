@@ -1,16 +1,17 @@
--- How many entries a ranked list has, and what a removal past the last leaves.
-use Rattle.std.proofs.Common.{◌≡◌, ℕ, cond, ltb, length, sym, refl, arith}
-use Rattle.std.specs.List.{remove}
+-- How many entries a ranked list has, and where they stand.
+use Rattle.std.proofs.Common.{◌≡◌, ℕ, ◌<◌, ◌≤◌, length, Some, None, sym, ◌∙◌, ⊎_elim, arith}
+use Rattle.std.specs.List.{slice_get}
 use Rattle.std.proofs.lemmas.List.{length-take-le}
-use Rattle.std.proofs.lemmas.Bool.{cond_both, ltb-false}
+use Rattle.std.proofs.lemmas.Option.{slice_get_within, slice_get_cases}
 use Rattle.ranked.specs.declared.list.RankedList.{RankedList}
 use Rattle.ranked.specs.View.{entries, count}
-use Rattle.ranked.proofs.Places.{removed_past}
 
-pub length-entries : {X : Type 0} (l : RankedList X) → length (entries l) ≡ count l
-length-entries l = length-take-le (count l) l.places.now (omega arith)
+module _ {X : Type 0} {r : _} (l : RankedList X r) where
+  pub length-entries : length (entries l) ≡ count l
+  length-entries = length-take-le l.len l.places.now (omega (arith, l.fits))
 
-pub removed_or_not : {X : Type 0} (l : RankedList X) (at : ℕ) → cond (ltb at (count l)) (remove (entries l) at) (entries l) ≡ remove (entries l) at
-removed_or_not l at =
-    cond_both (ltb at (count l)) (remove (entries l) at) (entries l) (λ xs. xs ≡ remove (entries l) at) (λ t. refl)
-    (λ f. sym (removed_past (entries l) at (omega (arith, length-entries l, ltb-false at (count l) f))))
+  pub stands : (at : ℕ) (x : X) → Some x ≡ slice_get (entries l) at → at < count l
+  stands at x e = omega (arith, slice_get_within (entries l) at x (sym e), length-entries)
+
+  pub stands_not : (at : ℕ) → None ≡ slice_get (entries l) at → count l ≤ at
+  stands_not at e = ⊎_elim (λ p. absurd (let q = e ∙ p.2 in cc)) (λ p. omega (arith, p.0, length-entries)) (slice_get_cases (entries l) at).1

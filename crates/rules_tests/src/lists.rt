@@ -107,22 +107,16 @@ enum Step {
 // Takes a step; the number of the entry that went in or out, 0 where it was refused.
 fn take(list: &mut RankedList<'_, Entry>, step: Step, at: usize, x: Entry) -> u64 {
     let answer = match step {
-        Step::Insert => match list.insert(x) {
-            Ok(()) => Some(x),
-            Err(_) => None,
-        },
+        Step::Insert => list.insert(x).ok().map(|()| x),
         Step::Remove => list.remove(at),
         Step::Replace => list.replace(at, x),
     };
     number_of(answer)
 }
 
-// The number of an entry, 0 where there is none.
+// The number of an entry, 0 where there is none, as the tables have it.
 fn number_of(entry: Option<Entry>) -> u64 {
-    match entry {
-        Some(x) => x.number,
-        None => 0,
-    }
+    entry.map_or(0, |x| x.number)
 }
 
 // Entries behind the level ones, gaps that close, and changes in place: a step with its place, rank and number, the number

@@ -49,10 +49,7 @@ fn prices(rt: HostRuntime) {
 
 // The letters of a board's bids, a blank where there is none.
 fn letter_at(board: &AwayBoard<'_>, at: usize) -> u8 {
-    match board.bids().get(at) {
-        Some(x) => x.exchange,
-        None => b' ',
-    }
+    board.bids().get(at).map_or(b' ', |x| x.exchange)
 }
 
 // Bids set on a board of three places, a price of 0 to clear: the exchange, the price, the answer, the letters afterwards, and the best.

@@ -21,11 +21,7 @@ fn shared<S: SharingRule>(rule: &S, n: u64, claims: &[Claim; 3]) -> Result<[u32;
 
 // Three claims.
 fn claims_of(sizes: [u32; 3]) -> [Claim; 3] {
-    [
-        Claim { size: sizes[0] },
-        Claim { size: sizes[1] },
-        Claim { size: sizes[2] },
-    ]
+    sizes.map(|size| Claim { size })
 }
 
 // The shares of three sizes, by arrival and pro rata, and the same where the rule is lent.

@@ -16,18 +16,12 @@ const ROWS: [(u64, u64, u64); 7] = [
 
 // The rule of one width, or no rule where it is refused.
 fn flat(width: u64) -> Result<Flat, Fail> {
-    match Flat::new(width) {
-        Ok(rule) => Ok(rule),
-        Err(_) => Err(Fail::new("a width refused")),
-    }
+    Flat::new(width).map_err(|_| Fail::new("a width refused"))
 }
 
 // A rule times some tenths.
 fn times<W: Drop>(below: W, tenths: u64) -> Result<Multiplied<W>, Fail> {
-    match Multiplied::new(below, tenths) {
-        Ok(rule) => Ok(rule),
-        Err(_) => Err(Fail::new("tenths refused")),
-    }
+    Multiplied::new(below, tenths).map_err(|_| Fail::new("tenths refused"))
 }
 
 // The width of a flat rule times some tenths, or nothing where they are refused.
@@ -66,10 +60,7 @@ fn ranges(rt: HostRuntime) -> Result<(), Fail> {
         assert_eq!(rt; flat(width)?.width(u64::MAX), width);
     }
     for width in [1_000_001, u64::MAX] {
-        match Flat::new(width) {
-            Ok(_) => return Err(Fail::new("a width past the widest")),
-            Err(why) => assert_eq!(rt; why.number(), 42),
-        }
+        assert_eq!(rt; Flat::new(width).err().map(|why| why.number()), Some(42));
     }
     let cases = [
         (5, 0, None),

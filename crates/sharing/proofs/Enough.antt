@@ -1,10 +1,23 @@
 -- Asks that are fit, and those in which n is enough for everyone.
-use Rattle.std.proofs.Common.{◌≡◌, ℕ, ◌-◌, ◌*◌, ◌≤◌, min, true, ◌&&◌, eqb, leb, List, [], ◌∷◌, length, sym, refl, ap, ◌∙◌, arith}
+use Rattle.std.proofs.Common.{◌≡◌, ℕ, ◌-◌, ◌*◌, ◌/◌, ◌≤◌, min, Bool, true, false, cond, ◌&&◌, eqb, leb, List, [], ◌∷◌, length, Some, None, sym, refl, ap, ◌∙◌, arith}
+use Rattle.std.specs.List.{list_all, sum_by}
+use Rattle.std.proofs.lemmas.List.Recursion.{is_sum_by}
 use Rattle.std.proofs.lemmas.List.{length-map}
 use Rattle.std.proofs.lemmas.Bool.{and_parts, leb-true, eqb-true, le-leb, cond-true}
 use Rattle.sharing.specs.declared.claim.Claim.{Claim}
-use Rattle.sharing.specs.Asking.{sizes, sizes_fit, fits, places_after}
-use Rattle.sharing.specs.Shares.{sum, arrival, pro_rata}
+use Rattle.sharing.specs.declared.refusal.Refusal.TheVariants.{Unfit}
+use Rattle.sharing.specs.Asking.{sizes, sizes_fit, fits, ask_refusal, places_after}
+use Rattle.sharing.specs.Shares.{sum, arrival, floors, pro_rata}
+
+pub sizes_fit_is : (claims : List Claim) → sizes_fit (sizes claims) ≡ list_all (λ claim. leb claim.size 100000) claims
+sizes_fit_is [] = refl
+sizes_fit_is (claim ∷ claims) = ap (λ b. leb claim.size 100000 && b) (sizes_fit_is claims)
+
+pub sum_of_sizes : (claims : List Claim) → sum (sizes claims) ≡ sum_by (λ claim. claim.size) claims
+sum_of_sizes claims = is_sum_by (λ claims. sum (sizes claims)) (λ claim. claim.size) refl (λ _ _. refl) claims
+
+pub sum_of_floors : (n t : ℕ) (claims : List Claim) → sum (floors n t (sizes claims)) ≡ sum_by (λ claim. n * claim.size / t) claims
+sum_of_floors n t claims = is_sum_by (λ claims. sum (floors n t (sizes claims))) (λ claim. n * claim.size / t) refl (λ _ _. refl) claims
 
 sum-fit : (xs : List ℕ) → sizes_fit xs ≡ true → sum xs ≤ 100000 * length xs
 sum-fit [] e = omega arith
@@ -18,8 +31,13 @@ pub record Fit (claims : List Claim) (places : ℕ) : Type 0 where
   pub placed : length claims ≡ places
   pub small : sum (sizes claims) ≤ 51200000
 
-pub fit : (claims : List Claim) (places : ℕ) → fits claims places ≡ true → Fit claims places
-fit claims places e =
+unrefused : (fine : Bool) → None ≡ cond fine None (Some Unfit) → fine ≡ true
+unrefused true e = refl
+unrefused false e = cc
+
+pub fit : (claims : List Claim) (places : ℕ) → None ≡ ask_refusal claims places → Fit claims places
+fit claims places h =
+    let e = unrefused (fits claims places) h in
     let p = and_parts (leb (length claims) 512) (eqb (length claims) places && sizes_fit (sizes claims)) e in
     let q = and_parts (eqb (length claims) places) (sizes_fit (sizes claims)) p.1 in
     let l = leb-true (length claims) 512 p.0 in

@@ -4,7 +4,7 @@ ghost use Rattle.sharing.specs.Asking.{sizes};
 ghost use Rattle.sharing.specs.Shares.{arrival};
 ghost use Rattle.sharing.specs.Laws.{arrival_shared};
 
-use crate::claim::{Claim, fit_to_share};
+use crate::claim::{Claim, check};
 use crate::refusal::Refusal;
 use crate::rule::SharingRule;
 
@@ -17,6 +17,7 @@ fn fill_in_turn(n: u64, claims: &[Claim], shares: &mut [u32])
     ensures { shares.new ≡ arrival n (sizes claims.now) }
 {
     let mut left = n;
+    // by index: a proof is not told what is written through `iter_mut` under `zip`
     for (i, claim) in claims.iter().enumerate() {
         let share = left.min(u64::from(claim.size));
         shares[i] = share as u32;
@@ -30,9 +31,7 @@ impl SharingRule for Arrival {
     ghost fair = { λ _ n claims. arrival_shared n (sizes claims) };
 
     fn share(&self, n: u64, claims: &[Claim], shares: &mut [u32]) -> Result<(), Refusal> {
-        if !fit_to_share(claims, shares.len()) {
-            return Err(Refusal::Unfit);
-        }
+        check(claims, shares.len())?;
         fill_in_turn(n, claims, shares);
         Ok(())
     }

@@ -5,7 +5,7 @@ ghost use Rattle.sharing.specs.Asking.{number_of};
 #[derive(Clone, Copy, Debug, PartialEq)]
 pub enum Refusal {
     // over 512 claims, places that differ in number from the claims, or a size over 100,000
-    Unfit,
+    Unfit = 40,
 }
 
 impl Refusal {
@@ -13,8 +13,6 @@ impl Refusal {
     pub fn number(&self) -> u8
         ensures { result ≡ number_of self.now }
     {
-        match self {
-            Refusal::Unfit => 40,
-        }
+        *self as u8
     }
 }

@@ -11,14 +11,14 @@ pub trait SharingRule {
     // The shares of a number of contracts among claims, in the claims' order.
     ghost means: { Self → ℕ → List Claim → List ℕ };
 
-    // No share is above its claim's size, and together they are n or all that is claimed.
-    ghost fair: { Fair means };
-
     // Writes the claims' shares of n into the places brought; nothing where the ask is unfit.
     fn share(&self, n: u64, claims: &[Claim], shares: &mut [u32]) -> Result<(), Refusal>
         ensures answer { result_err result ≡ ask_refusal claims.now (length shares.old) }
         ensures after { shares.new ≡ places_after claims.now (means self.now n claims.now) shares.old }
         ensures unchanged { self.exit.now ≡ self.entry.now };
+
+    // No share is above its claim's size, and together they are n or all that is claimed.
+    ghost fair: { Fair means };
 }
 
 // A rule lent is that rule.

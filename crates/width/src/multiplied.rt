@@ -21,10 +21,10 @@ impl<W: Drop> Multiplied<W> {
         ensures answer { result_err result ≡ tenths_refusal tenths }
         ensures value { IfOk result (λ m. (m.below ≡ below) × (m.tenths ≡ tenths)) }
     {
-        if tenths < 1 || tenths > 100 {
-            return Err(Refusal::OutOfRange);
+        match tenths {
+            1..=100 => Ok(Multiplied { below, tenths }),
+            _ => Err(Refusal::OutOfRange),
         }
-        Ok(Multiplied { below, tenths })
     }
 }
 

@@ -5,7 +5,7 @@ ghost use Rattle.width.specs.Refusals.{number_of};
 #[derive(Clone, Copy, Debug, PartialEq)]
 pub enum Refusal {
     // a width over the widest, or tenths that are not 1 to 100
-    OutOfRange,
+    OutOfRange = 42,
 }
 
 impl Refusal {
@@ -13,8 +13,6 @@ impl Refusal {
     pub fn number(&self) -> u8
         ensures { result ≡ number_of self.now }
     {
-        match self {
-            Refusal::OutOfRange => 42,
-        }
+        *self as u8
     }
 }

@@ -1,4 +1,5 @@
 // The published table.
+ghost use Rattle.std.specs.Prelude.{◌≡◌, fold, cond, nat_le};
 ghost use Rattle.width.specs.Widths.{table_width, table_capped};
 
 use crate::rule::WidthRule;
@@ -15,6 +16,16 @@ const ROWS: [(u64, u64); 8] = [
     (2_000_100, 120_000),
 ];
 
+// The width of the last of some rows whose lowest bid is at or below the bid. No row is left out: a search from the last
+// one that stops at the row found is slower.
+fn looked_up(rows: &[(u64, u64)], bid: u64) -> u64
+    ensures { result ≡ fold (λ width row. cond (nat_le row.0 bid) row.1 width) 0 rows.now }
+{
+    rows.iter().fold(0, |width, &(lowest, row_width)| {
+        if lowest <= bid { row_width } else { width }
+    })
+}
+
 #[derive(Clone, Copy)]
 pub struct Table;
 
@@ -24,12 +35,6 @@ impl WidthRule for Table {
     ghost capped = { λ _ bid. table_capped bid };
 
     fn width(&self, bid: u64) -> u64 {
-        let mut width = 0;
-        for row in ROWS {
-            if row.0 <= bid {
-                width = row.1;
-            }
-        }
-        width
+        looked_up(&ROWS, bid)
     }
 }

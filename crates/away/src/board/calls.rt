@@ -9,57 +9,11 @@ ghost use Rattle.market.specs.Refusals.{unless};
 ghost use Rattle.away.specs.View.{bids_of, offers_of, bid_room, offer_room, bid_refusal, offer_refusal, bid_price, offer_price};
 
 use super::AwayBoard;
-use crate::prices::{AwayBid, AwayOffer};
-use crate::quotes::{Quote, best_price, clear, post};
+use crate::prices::{Away, AwayBid, AwayOffer};
+use crate::quotes::PriceList;
 use market::{OutsideMarket, Refusal};
-use ranked::RankedList;
 
-impl Quote for AwayBid {
-    ghost exchange = { λ x. x.exchange };
-
-    ghost price = { λ x. x.price };
-
-    ghost quote = { λ e p. record { exchange = e; price = p } };
-
-    fn exchange(&self) -> u8 {
-        self.exchange
-    }
-
-    fn price(&self) -> u64 {
-        self.price
-    }
-
-    fn quote(letter: u8, amount: u64) -> AwayBid {
-        AwayBid {
-            exchange: letter,
-            price: amount,
-        }
-    }
-}
-
-impl Quote for AwayOffer {
-    ghost exchange = { λ x. x.exchange };
-
-    ghost price = { λ x. x.price };
-
-    ghost quote = { λ e p. record { exchange = e; price = p } };
-
-    fn exchange(&self) -> u8 {
-        self.exchange
-    }
-
-    fn price(&self) -> u64 {
-        self.price
-    }
-
-    fn quote(letter: u8, amount: u64) -> AwayOffer {
-        AwayOffer {
-            exchange: letter,
-            price: amount,
-        }
-    }
-}
-
+// Each side has calls of its own, which callers name; what they do is written once, in `PriceList`.
 impl<'a> AwayBoard<'a> {
     // A board without a price, over lent places.
     pub fn new(bids: &'a mut [AwayBid], offers: &'a mut [AwayOffer]) -> AwayBoard<'a>
@@ -68,8 +22,8 @@ impl<'a> AwayBoard<'a> {
         ensures rooms { (bid_room result ≡ min 512 (length bids.old)) × (offer_room result ≡ min 512 (length offers.old)) }
     {
         AwayBoard {
-            bids: RankedList::new(bids),
-            offers: RankedList::new(offers),
+            bids: PriceList::new(bids),
+            offers: PriceList::new(offers),
         }
     }
 
@@ -96,7 +50,7 @@ impl<'a> AwayBoard<'a> {
         ensures bid_room { bid_room self.new ≡ bid_room self.old }
         ensures offer_room { offer_room self.new ≡ offer_room self.old }
     {
-        post(&mut self.bids, exchange, price)
+        self.bids.post(Away { exchange, price })
     }
 
     // An exchange's new offer replaces its former one; refused, and nothing is changed, where there is no place for it or it is unfit.
@@ -108,7 +62,7 @@ impl<'a> AwayBoard<'a> {
         ensures bid_room { bid_room self.new ≡ bid_room self.old }
         ensures offer_room { offer_room self.new ≡ offer_room self.old }
     {
-        post(&mut self.offers, exchange, price)
+        self.offers.post(Away { exchange, price })
     }
 
     // Clears an exchange's bid, present or not; refused where its letter is unfit.
@@ -120,7 +74,7 @@ impl<'a> AwayBoard<'a> {
         ensures bid_room { bid_room self.new ≡ bid_room self.old }
         ensures offer_room { offer_room self.new ≡ offer_room self.old }
     {
-        clear(&mut self.bids, exchange)
+        self.bids.clear(exchange)
     }
 
     // Clears an exchange's offer, present or not; refused where its letter is unfit.
@@ -132,17 +86,17 @@ impl<'a> AwayBoard<'a> {
         ensures bid_room { bid_room self.new ≡ bid_room self.old }
         ensures offer_room { offer_room self.new ≡ offer_room self.old }
     {
-        clear(&mut self.offers, exchange)
+        self.offers.clear(exchange)
     }
 }
 
 // The market of a board is the best of its bids and of its offers.
 impl<'a> OutsideMarket for AwayBoard<'a> {
-    ghost means = { λ b. best_of (entries b.bids) (entries b.offers) };
+    ghost means = { λ b. best_of (bids_of b) (offers_of b) };
 
-    ghost fit = { λ b. fit_board (entries b.bids) (entries b.offers) b.sound };
+    ghost fit = { λ b. fit_board (bids_of b) (offers_of b) b.bids.fit b.offers.fit };
 
     fn ask(&self) -> (Option<u64>, Option<u64>) {
-        (best_price(&self.bids), best_price(&self.offers))
+        (self.bids.best_price(), self.offers.best_price())
     }
 }

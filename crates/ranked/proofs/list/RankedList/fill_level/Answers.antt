@@ -1,18 +1,54 @@
-use Rattle.std.proofs.Common.{length, take, ap, ◌∙◌}
+use Rattle.std.proofs.Common.{◌≡◌, ◌<◌, length, take, drop, sym, ap, ◌∙◌, arith, rules}
+use Rattle.std.specs.List.{between}
 use Rattle.ranked.specs.Level.{level_at}
 use Rattle.ranked.specs.Order.{in_rank}
 use Rattle.ranked.specs.View.{entries}
-use Rattle.ranked.proofs.Fills.{filled_in_rank}
+use Rattle.ranked.proofs.Fills.{filled_in_rank, filled_front, filled_past}
+use Rattle.ranked.proofs.Levels.{level_is}
+use Rattle.ranked.proofs.Views.{length-entries, stands, stands_not}
 use Rattle.ranked.proofs.list.RankedList.fill_level.Goals as goal
 
-pub returns : goal.returns
-returns g c =
+pub offset_bounds-entries-at : goal.offset_bounds-entries-at
+offset_bounds-entries-at g c =
+    let l = c.args.self.now in
+    let lt : c.args.at < length l.places.now = omega (arith, stands l c.args.at c.in-Some.best (sym c.in-Some.is ∙ c.get.ensures), l.fits) in
+    search rules
+
+pub slice_bounds-fill-count : goal.slice_bounds-fill-count
+slice_bounds-fill-count g c =
+    let l = c.args.self.now in
+    omega (arith, (level_is g.T.Rank.better g.met.T.Rank.apart g.met.T.Rank.carries g.met.T.Rank.levels c.args.at c.in-Some.best (entries l) l.order (sym c.in-Some.is ∙ c.get.ensures)).0, c.spot-end.ensures.there)
+
+pub slice_bounds-fill-start : goal.slice_bounds-fill-start
+slice_bounds-fill-start g c =
+    let l = c.args.self.now in
+    omega (arith, (level_is g.T.Rank.better g.met.T.Rank.apart g.met.T.Rank.carries g.met.T.Rank.levels c.args.at c.in-Some.best (entries l) l.order (sym c.in-Some.is ∙ c.get.ensures)).0, c.spot-end.ensures.there, c.spot-end.ensures.within, length-entries l)
+
+pub invariant_of-self-clause-order : goal.invariant_of-self-clause-order
+invariant_of-self-clause-order g c =
     let b = g.T.Rank.better in
+    let f = g.T.Fill.fill in
+    let l = c.args.self.now in
     let at = c.args.at in
-    let old = entries c.args.self.now in
-    record {
-      after = c.fill_at.ensures.after;
-      order = ap (in_rank b) c.fill_at.ensures.after ∙ filled_in_rank b g.T.Fill.fill g.met.T.Fill.keeps at (take (length (level_at b at old)) c.args.shares.now) old;
-      count = c.fill_at.ensures.count;
-      room = c.fill_at.ensures.room;
-    }
+    let end = c.spot-end.result in
+    let ns = c.args.shares.now in
+    let part : between at end (entries l) ≡ level_at b at (entries l) = (λ i. between at (c.spot-end.ensures.there i) (entries l)) ∙ (level_is b g.met.T.Rank.apart g.met.T.Rank.carries g.met.T.Rank.levels at c.in-Some.best (entries l) l.order (sym c.in-Some.is ∙ c.get.ensures)).1 in
+    let e = filled_front b f at end l.len (entries l) (drop l.len l.places.now) ns c.fill.new.entries (length-entries l) c.spot-end.ensures.within part c.fill.ensures in
+    ap (in_rank b) e ∙ filled_in_rank b f g.met.T.Fill.keeps at (take (length (level_at b at (entries l))) ns) (entries l) ∙ l.order
+
+pub returns-in-Some-clause-after : goal.returns-in-Some-clause-after
+returns-in-Some-clause-after g c =
+    let b = g.T.Rank.better in
+    let f = g.T.Fill.fill in
+    let l = c.args.self.now in
+    let at = c.args.at in
+    let end = c.spot-end.result in
+    let ns = c.args.shares.now in
+    let part : between at end (entries l) ≡ level_at b at (entries l) = (λ i. between at (c.spot-end.ensures.there i) (entries l)) ∙ (level_is b g.met.T.Rank.apart g.met.T.Rank.carries g.met.T.Rank.levels at c.in-Some.best (entries l) l.order (sym c.in-Some.is ∙ c.get.ensures)).1 in
+    let e = filled_front b f at end l.len (entries l) (drop l.len l.places.now) ns c.fill.new.entries (length-entries l) c.spot-end.ensures.within part c.fill.ensures in
+    e
+
+pub returns-in_default-clause-after : goal.returns-in_default-clause-after
+returns-in_default-clause-after g c =
+    let l = c.args.self.now in
+    sym (filled_past g.T.Rank.better g.T.Fill.fill c.args.at (entries l) c.args.shares.now (omega (arith, stands_not l c.args.at (sym c.in_default.is ∙ c.get.ensures), length-entries l)))

@@ -1,15 +1,33 @@
-use Rattle.std.proofs.Common.{◌≡◌, ap, ◌∙◌}
-use Rattle.ranked.specs.Level.{level_at}
+use Rattle.std.proofs.Common.{◌-◌, take, length, drop, sym, ap, ◌∙◌, arith}
 use Rattle.ranked.specs.View.{entries}
-use Rattle.ranked.proofs.Levels.{level_whole}
+use Rattle.ranked.proofs.Levels.{level_is, level_none, level_whole}
+use Rattle.ranked.proofs.Views.{length-entries, stands_not}
 use Rattle.ranked.proofs.list.RankedList.level.Goals as goal
 
-pub returns : goal.returns
-returns g c =
-    let b = g.T.Rank.better in
-    let xs = entries c.args.self.now in
-    let e : c.level_of.result.now ≡ level_at b c.args.at xs = c.level_of.ensures ∙ ap (level_at b c.args.at) c.entries.ensures in
+pub slice_bounds-result-count : goal.slice_bounds-result-count
+slice_bounds-result-count g c =
+    let l = c.args.self.now in
+    omega (arith, (level_is g.T.Rank.better g.met.T.Rank.apart g.met.T.Rank.carries g.met.T.Rank.levels c.args.at c.in-Some.best (entries l) l.order (sym c.in-Some.is ∙ c.get.ensures)).0, c.spot.ensures.there)
+
+pub slice_bounds-result-start : goal.slice_bounds-result-start
+slice_bounds-result-start g c =
+    let l = c.args.self.now in
+    omega (arith, (level_is g.T.Rank.better g.met.T.Rank.apart g.met.T.Rank.carries g.met.T.Rank.levels c.args.at c.in-Some.best (entries l) l.order (sym c.in-Some.is ∙ c.get.ensures)).0, c.spot.ensures.there, c.spot.ensures.within, ap length c.entries.ensures, length-entries l)
+
+pub returns-in-Some : goal.returns-in-Some
+returns-in-Some g c =
+    let l = c.args.self.now in
+    let e = (λ i. take (c.spot.ensures.there i - c.args.at) (drop c.args.at (c.entries.ensures i))) ∙ (level_is g.T.Rank.better g.met.T.Rank.apart g.met.T.Rank.carries g.met.T.Rank.levels c.args.at c.in-Some.best (entries l) l.order (sym c.in-Some.is ∙ c.get.ensures)).1 in
     record {
       value = e;
-      all_that_is_level = λ h. e ∙ level_whole b g.met.T.Rank.apart g.met.T.Rank.carries g.met.T.Rank.levels c.args.at xs h;
+      all_that_is_level = e ∙ level_whole g.T.Rank.better g.met.T.Rank.apart g.met.T.Rank.carries g.met.T.Rank.levels c.args.at (entries l) l.order;
+    }
+
+pub returns-in-None : goal.returns-in-None
+returns-in-None g c =
+    let l = c.args.self.now in
+    let e = level_none g.T.Rank.better (entries l) c.args.at (omega (arith, stands_not l c.args.at (sym c.in-None.is ∙ c.get.ensures), length-entries l)) in
+    record {
+      value = e;
+      all_that_is_level = e ∙ level_whole g.T.Rank.better g.met.T.Rank.apart g.met.T.Rank.carries g.met.T.Rank.levels c.args.at (entries l) l.order;
     }
