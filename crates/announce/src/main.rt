@@ -72,8 +72,7 @@ impl Sender {
         ensures { OnOk result (Holds [] self.new.buffer) }
     {
         if self.pending > 0 {
-            let hex = Hex(frame(&self.buffer));
-            println!(rt; "{hex}")?;
+            println!(rt; "{}", Hex(frame(&self.buffer)))?;
             self.frames = self.frames.saturating_add(1);
         }
         self.renew();
@@ -119,12 +118,13 @@ impl Sender {
         match self.obey(rt, line) {
             Ok(()) => return Ok(()),
             Err(LineError::Unread(Problem { word, trouble })) => {
-                let word = Word(word);
-                eprintln!(rt; "line {number}: {word} {trouble}")?;
+                eprintln!(rt; "line {number}: {} {trouble}", Word(word))?;
             }
             Err(LineError::Refused(refusal)) => {
-                let code = refusal.number();
-                eprintln!(rt; "line {number}: the message is refused, {code}")?;
+                eprintln!(rt;
+                    "line {number}: the message is refused, {}",
+                    refusal.number()
+                )?;
             }
             Err(LineError::Failed(error)) => return Err(error),
         }
@@ -147,10 +147,10 @@ fn run(rt: &HostRuntime) -> anyhow::Result<()> {
         sender.take(rt, number, line?.as_slice())?;
     }
     sender.send(rt)?;
-    let messages = sender.messages;
-    let frames = sender.frames;
-    let bad = sender.bad;
-    eprintln!(rt; "{messages} messages in {frames} frames, {bad} lines not understood")?;
+    eprintln!(rt;
+        "{} messages in {} frames, {} lines not understood",
+        sender.messages, sender.frames, sender.bad
+    )?;
     Ok(())
 }
 

@@ -17,13 +17,7 @@ pair b d s small e f =
     (λ i. option_map (padded_integral (f i) false (shown_prefix (f i) (radix_prefix d.base))) (e i))
     ∙ ap (λ (l : List ℕ). Some l) (hex_byte true b small)
 
--- a printable byte as its character
-pub printed : (b c : ℕ) → c ≡ b → 32 ≤ b → b ≤ 126 → encode c ≡ letter_text b
-printed b c same low high =
-    let w : is_in_range 0x20 0x7e b ≡ true = grind (arith, nat_tests) in
-    let e = encode_ascii c (omega arith) in
-    rw (w, e) (ap (λ (n : ℕ). n ∷ []) same)
-
+-- a byte that is not printable
 pub escaped : (b : ℕ) → (b < 32) ⊎ (127 ≤ b) → codes "\\x" ++ capital_pair b ≡ letter_text b
 escaped b h = let w : is_in_range 0x20 0x7e b ≡ false = grind (arith, nat_tests) in rw w
 

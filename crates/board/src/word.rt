@@ -36,6 +36,7 @@ impl fmt::Display for Word<'_> {
 }
 
 // A condition's letter: its character if it is visible, else as `0xNN`.
+// It is not shown as a `Letter`: a blank alone would not be seen, and `0xNN` is how a board's entry writes it.
 #[derive(Clone, Copy)]
 pub struct Condition(pub u8);
 

@@ -30,14 +30,8 @@ fn show(rt: &HostRuntime, number: u64, frame: &[u8]) -> anyhow::Result<()> {
     }
     for message in Reader::new(frame).messages() {
         match message {
-            Ok(message) => {
-                let line = MessageLine(message);
-                println!(rt; "  {line}")?;
-            }
-            Err(fault) => {
-                let line = FaultLine(fault);
-                println!(rt; "  {line}")?;
-            }
+            Ok(message) => println!(rt; "  {}", MessageLine(message))?,
+            Err(fault) => println!(rt; "  {}", FaultLine(fault))?,
         }
     }
     Ok(())
@@ -57,8 +51,7 @@ fn run(rt: &HostRuntime) -> anyhow::Result<()> {
                 show(rt, frames, frame.as_slice())?;
             }
             Err(HexError::NotHex(word)) => {
-                let word = Word(word);
-                println!(rt; "line {number}: not understood: {word}")?;
+                println!(rt; "line {number}: not understood: {}", Word(word))?;
             }
             Err(HexError::Alloc(error)) => return Err(error.into()),
         }

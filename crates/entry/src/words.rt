@@ -38,6 +38,7 @@ impl<'a> Words<'a> {
         parse(word).ok_or(Problem { word, trouble })
     }
 
+    // The kinds of fields by name, so that no entry can pair a reading with another's trouble.
     pub fn symbol(&mut self) -> Result<[u8; 8], Problem<'a>>
         ensures { taken result (line_of self.new) ≡ symbol_in (line_of self.old) }
     {

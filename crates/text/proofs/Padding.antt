@@ -56,10 +56,6 @@ trim_done xs h e =
     let s = last_split xs h in
     s ∙ sym (ap trimmed_of s ∙ trim_none (take (length xs - 1) xs) (get_or xs (length xs - 1) 0) e)
 
-pub trim_empty : (xs : List ℕ) → length xs < 1 → xs ≡ trimmed_of xs
-trim_empty [] h = refl
-trim_empty (c ∷ cs) h = absurd (omega arith)
-
 trim_blanks : (k : ℕ) → trimmed_of (replicate k 32) ≡ []
 trim_blanks zero = refl
 trim_blanks (suc k) = ap (before_rest 32) (trim_blanks k)

@@ -1,5 +1,5 @@
 -- Bytes in hexadecimal digits.
-use Rattle.std.specs.Prelude.{◌≡◌, ℕ, ◌+◌, ◌-◌, ◌*◌, ◌/◌, ◌%◌, ◌<◌, Bool, true, false, cond, ◌&&◌, ◌||◌, List, [], ◌∷◌, ◌++◌, drop, Some, None, Ok, Err, Option, Result, nat_lt}
+use Rattle.std.specs.Prelude.{◌≡◌, ℕ, ◌+◌, ◌-◌, ◌*◌, ◌/◌, ◌%◌, ◌<◌, Bool, true, false, cond, ◌&&◌, ◌||◌, List, [], ◌∷◌, ◌++◌, length, take, drop, Some, None, Ok, Err, Option, Result, nat_lt}
 use Rattle.std.specs.Int.{is_in_range}
 use Rattle.std.specs.Char.{is_ascii_digit, digit_char}
 use Rattle.std.specs.List.{flat_map, AllByRecursion}
@@ -43,6 +43,10 @@ blank_pairs (b ∷ bs) = 32 ∷ (hex_pair b ++ blank_pairs bs)
 -- each byte as its pair, with one blank between them
 unfoldable pub hex_text : List ℕ → List ℕ
 hex_text bs = drop 1 (blank_pairs bs)
+
+-- the new text begins with the old one
+abbrev pub Keeps : List ℕ → List ℕ → Type 0
+Keeps old new = take (length old) new ≡ old
 
 -- what comes of a word: pairs of hex digits alone are taken, where memory lasts, and any other word is given back
 abbrev pub HexAnswer : List ℕ → Result (Unit {0}) HexError → Type 0

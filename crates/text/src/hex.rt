@@ -1,6 +1,6 @@
 // Bytes in hexadecimal digits.
-ghost use Rattle.std.specs.Prelude.{◌≡◌, [], ◌++◌, is_ok, if◌then◌else◌, Some};
-ghost use Rattle.text.specs.Hex.{hex_digit_of, is_hex_pairs, hex_bytes, hex_text, HexAnswer, HexReadsBack};
+ghost use Rattle.std.specs.Prelude.{◌≡◌, [], ◌++◌, is_ok, if◌then◌else◌, Some, string_bytes, MatchResult};
+ghost use Rattle.text.specs.Hex.{hex_digit_of, is_hex_pairs, hex_bytes, hex_text, HexAnswer, Keeps, HexReadsBack};
 ghost use Rattle.text.specs.declared.hex.HexError.TheVariants.{Alloc};
 
 use std::alloc::AllocError;
@@ -52,6 +52,7 @@ pub fn push_word<'a>(out: &mut Vec<u8>, word: &'a [u8]) -> Result<(), HexError<'
         return Err(HexError::NotHex(word));
     }
     out.reserve(word.len() / 2)?;
+    // a pattern names both digits of a pair, where a chunk would be indexed
     let mut rest = word;
     while let [high, low, tail @ ..] = rest {
         out.push_reserved(hex_digit(*high).unwrap() * 16 + hex_digit(*low).unwrap());
@@ -77,6 +78,15 @@ impl fmt::Display for Hex<'_> {
         }
         Ok(())
     }
+}
+
+// Puts what `Hex` shows behind `out`. Where memory is short, `out` still begins with what it had.
+pub fn push_hex(out: &mut String, bytes: &[u8]) -> Result<(), AllocError>
+    ensures { MatchResult result (λ _. string_bytes out.new ≡ string_bytes out.old ++ hex_text bytes.now) (λ _. Keeps (string_bytes out.old) (string_bytes out.new)) }
+{
+    // put behind `out` as a whole: where a `write!` fails, what `out` holds is not said
+    let hex = format!(in *out.allocator(); "{}", Hex(bytes))?;
+    out.push_str(hex.as_str())
 }
 
 // What `Hex` shows, `push_word` reads back word by word.

@@ -25,6 +25,7 @@ pub fn padded(word: &[u8]) -> Option<[u8; 8]>
 pub fn trimmed(symbol: &[u8]) -> &[u8]
     ensures { result.now ≡ trimmed_of symbol.now }
 {
+    // the library's trimming takes other blanks off as well
     let mut rest = symbol;
     while let [front @ .., b' '] = rest {
         rest = front;

@@ -29,7 +29,7 @@ fn is_blank(b: u8) -> bool
 }
 
 // The first word of a line and what stands behind it, both parts of the line; none where no word is left.
-fn first_word(line: &[u8]) -> Option<(&[u8], &[u8])>
+pub fn first_word(line: &[u8]) -> Option<(&[u8], &[u8])>
     ensures none { IfNone result (word_list line.now ≡ []) }
     ensures word { IfSome result (λ p. p.0.now ≡ word_of line.now) }
     ensures rest { IfSome result (λ p. p.1.now ≡ behind_word line.now) }
@@ -42,7 +42,7 @@ fn first_word(line: &[u8]) -> Option<(&[u8], &[u8])>
 }
 
 // The words of a line, from left to right. Words stand between blanks: spaces, tabs and carriage returns.
-#[derive(Clone, Copy, Debug)]
+#[derive(Debug, Drop)]
 pub struct Words<'a>(pub &'a [u8]);
 
 impl<'a> Iterator for Words<'a> {

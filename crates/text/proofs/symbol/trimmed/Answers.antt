@@ -1,5 +1,5 @@
 use Rattle.std.proofs.Common.{◌≡◌, ◌-◌, ◌<◌, length, get_or, ◌∙◌, rules}
-use Rattle.text.proofs.Padding.{trim_more, trim_done, trim_empty}
+use Rattle.text.proofs.Padding.{trim_more, trim_done}
 use Rattle.text.proofs.symbol.trimmed.Goals as goal
 
 pub loop-rest-preserved : goal.loop-rest-preserved
@@ -7,11 +7,6 @@ loop-rest-preserved c =
     let some : 0 < length c.loop-rest.rest.now = search rules in
     let last : get_or c.loop-rest.rest.now (length c.loop-rest.rest.now - 1) 0 ≡ 32 = search rules in
     trim_more c.loop-rest.rest.now some last ∙ c.loop-rest.invariant
-
-pub returns-in_default : goal.returns-in_default
-returns-in_default c =
-    let none : length c.loop-rest.rest.now < 1 = search rules in
-    trim_empty c.loop-rest.rest.now none ∙ c.loop-rest.invariant
 
 pub returns-in_default-2 : goal.returns-in_default-2
 returns-in_default-2 c =

@@ -1,13 +1,9 @@
 use Rattle.std.proofs.Common.{◌<◌, ◌≤◌, ◌⊎◌, inl, inr, Some, codes, subst, arith}
 use Rattle.std.proofs.Output.{has_written_of_eq}
 use Rattle.std.specs.Fmt.{DisplaysOnOk, ◌++?◌}
-use Rattle.board.proofs.Showing.{pair, printed, escaped}
+use Rattle.board.proofs.Showing.{pair, escaped}
 use Rattle.board.proofs.word.LetterDisplay.fmt.Goals.{in_default-via-then-b-lt32, in_default-via-else-b-lt32+else-b-lt127}
 use Rattle.board.proofs.word.LetterDisplay.fmt.Goals as goal
-
-pub returns-in-32-to-126-clause-writes : goal.returns-in-32-to-126-clause-writes
-returns-in-32-to-126-clause-writes g c plain ok =
-    has_written_of_eq g.W.Write.write_str_gives _ _ _ _ (printed c.args.self.now.0 c.from.result c.from.ensures (omega arith) (omega arith)) (c.write_char.ensures.writes plain ok)
 
 pub returns-in_default-clause-writes : goal.returns-in_default-clause-writes
 returns-in_default-clause-writes g c plain ok =

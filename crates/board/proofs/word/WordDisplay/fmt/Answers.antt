@@ -1,6 +1,5 @@
-use Rattle.std.proofs.Common.{◌+◌, true, ◌++◌, get_or, take, sym, refl, ap}
+use Rattle.std.proofs.Common.{◌+◌, true, ◌++◌, get_or, take, sym, refl}
 use Rattle.std.proofs.Output.{has_written_of_eq, has_written_append, writes_in_calls_nil}
-use Rattle.std.proofs.lemmas.List.{take_all}
 use Rattle.board.specs.Lines.{letter_text, word_text}
 use Rattle.board.proofs.Showing.{word_none, word_more}
 use Rattle.board.proofs.word.WordDisplay.fmt.Goals as goal
@@ -17,7 +16,3 @@ loop-b-preserved g c plain =
     let y = c.in_ok-write.ensures.writes x.plain (refl {a = true}) in
     has_written_of_eq took c.args.f.now (word_text (take i bs) ++ letter_text (get_or bs i 0)) (word_text (take (i + 1) bs)) c.write.new.self (word_more bs i c.loop-b-test.true)
     (has_written_append took c.args.f.now (word_text (take i bs)) c.loop-b.f (letter_text (get_or bs i 0)) c.write.new.self x y)
-
-pub returns-clause-writes : goal.returns-clause-writes
-returns-clause-writes g c plain ok =
-    has_written_of_eq g.W.Write.write_str_gives _ _ _ _ (ap word_text (take_all c.loop-b.b-index c.args.self.now.0.now c.loop-b-test.false)) (c.loop-b.invariant plain)
