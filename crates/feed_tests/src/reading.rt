@@ -10,7 +10,7 @@ type End = Option<(Reason, usize)>;
 
 // Reads a frame to its end, checks the number of its messages and its end, and that the end stays.
 fn reads_to(rt: &impl Abort, frame: &[u8], messages: usize, end: End) {
-    let fault = end.map(|(reason, place)| Fault { reason, place });
+    let wanted = end.map(|(reason, place)| Fault { reason, place });
     let mut said = 0usize;
     let mut met = None;
     for message in Reader::new(frame).messages() {
@@ -20,12 +20,12 @@ fn reads_to(rt: &impl Abort, frame: &[u8], messages: usize, end: End) {
         }
     }
     assert_eq!(rt; said, messages);
-    assert_eq!(rt; met, fault);
+    assert_eq!(rt; met, wanted);
     let mut reader = Reader::new(frame);
     for _ in 0..messages {
         assert!(rt; matches!(reader.next(), Ok(Some(_))));
     }
-    let last = fault.map_or(Ok(false), Err);
+    let last = wanted.map_or(Ok(false), Err);
     for _ in 0..2 {
         assert_eq!(rt; reader.next().map(|message| message.is_some()), last);
     }
@@ -170,14 +170,15 @@ fn the_first_fault_counts(rt: HostRuntime) -> Result<(), Fail> {
     Ok(())
 }
 
-// Reads the sample's update and its summary.
-fn reads_sample(rt: &impl Abort, reader: &mut Reader<'_>) -> Result<(), Fail> {
+// Reads the sample's update and its summary from a frame.
+fn reads_sample(rt: &impl Abort, frame: &[u8]) -> Result<(), Fail> {
+    let mut reader = Reader::new(frame);
     match reader.next() {
-        Ok(Some(Message::Update(u))) => assert_eq!(rt; u, UPDATE),
+        Ok(Some(Message::Update(update))) => assert_eq!(rt; update, UPDATE),
         _ => return Err(Fail::new("no update")),
     }
     match reader.next() {
-        Ok(Some(Message::Summary(s))) => assert_eq!(rt; s, SUMMARY),
+        Ok(Some(Message::Summary(summary))) => assert_eq!(rt; summary, SUMMARY),
         _ => return Err(Fail::new("no summary")),
     }
     Ok(())
@@ -186,12 +187,12 @@ fn reads_sample(rt: &impl Abort, reader: &mut Reader<'_>) -> Result<(), Fail> {
 // The values of the sample, and the bytes of an unknown message.
 #[test]
 fn values(rt: HostRuntime) -> Result<(), Fail> {
-    reads_sample(&rt, &mut Reader::new(&FRAME))?;
+    reads_sample(&rt, &FRAME)?;
     let mut reader = Reader::new(&[13, 0, 1, 0, 0, 0, 0, 0, 5, 0x20, 7, 8, 9]);
     match reader.next() {
-        Ok(Some(Message::Unknown(m))) => {
-            assert_eq!(rt; m.len(), 5);
-            assert!(rt; m == [5, 0x20, 7, 8, 9].as_slice());
+        Ok(Some(Message::Unknown(bytes))) => {
+            assert_eq!(rt; bytes.len(), 5);
+            assert!(rt; bytes == [5, 0x20, 7, 8, 9].as_slice());
             Ok(())
         }
         _ => Err(Fail::new("no unknown message")),
@@ -206,7 +207,7 @@ fn grown(rt: HostRuntime) -> Result<(), Fail> {
     put(&mut frame, 80, &FRAME[72..99])?;
     put(&mut frame, 0, &[107])?;
     put(&mut frame, 8, &[72])?;
-    reads_sample(&rt, &mut Reader::new(&frame))?;
+    reads_sample(&rt, &frame)?;
     reads_to(&rt, &frame, 2, None);
     Ok(())
 }

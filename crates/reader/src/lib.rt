@@ -11,7 +11,7 @@ ghost use Rattle.reader.specs.Reading.{ahead, opened, resumed, moved, answered, 
 
 use feed::{Fault, Found, Message, Reason, count_of, message_at};
 
-// A reader holds the lent frame, its place in it, the messages still counted, and the fault that it met. It owns no memory.
+// A reader holds the lent frame, and where it stands in it by a place and a count, as `resume` takes them from a caller in C. It owns no memory.
 #[derive(Drop)]
 pub struct Reader<'a> {
     frame: &'a [u8],
@@ -83,6 +83,7 @@ impl<'a> Reader<'a> {
         ensures rest { ahead self.new ≡ later (ahead self.old) }
         ensures lent { IfOk result (λ o. IfSome o (λ m. LentAt self.old.frame.ref_ptr.0 (self.old.place + self.old.frame.ref_ptr.1) m)) }
     {
+        // one match: of the closures of `inspect_err` and `map` it is not proved what they leave in the reader
         match self.found() {
             Ok(Some(found)) => {
                 self.place = found.next;
