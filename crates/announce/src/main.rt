@@ -64,6 +64,7 @@ impl Sender {
         ensures { Holds [] self.new.buffer }
     {
         self.pending = 0;
+        // never refused: the buffer is a whole frame
         let _ = start(&mut self.buffer);
     }
 
@@ -96,11 +97,10 @@ impl Sender {
         match self.write(message) {
             Err(Refusal::NoRoom) => {
                 self.send(rt)?;
-                self.write(message)?;
+                Ok(self.write(message)?)
             }
-            answer => answer?,
+            answer => Ok(answer?),
         }
-        Ok(())
     }
 
     // Does what one line of the board says.
@@ -113,7 +113,7 @@ impl Sender {
         }
     }
 
-    // Takes one line of the board, and says what is wrong with it.
+    // Takes one line of the board, and prints what is wrong with it, if anything.
     fn take(&mut self, rt: &HostRuntime, number: u64, line: &[u8]) -> anyhow::Result<()> {
         match self.obey(rt, line) {
             Ok(()) => return Ok(()),

@@ -1,21 +1,12 @@
 -- What the pieces of a format write.
-use Rattle.std.proofs.Common.{◌≡◌, ℕ, ◌+◌, ◌-◌, ◌^◌, ◌<◌, ◌≤◌, ◌⊎◌, true, false, List, [], ◌∷◌, ◌++◌, length, get_or, take, Some, codes, sym, refl, ap, ◌∙◌, arith}
+use Rattle.std.proofs.Common.{◌≡◌, ℕ, ◌+◌, ◌<◌, ◌≤◌, ◌⊎◌, true, false, List, [], ◌∷◌, ◌++◌, length, get_or, take, codes, sym, refl, ap, ◌∙◌, arith}
 use lib.Utf8.{encode}
 use Rattle.std.proofs.lemmas.List.{take_more, flat_map_more}
 use Rattle.std.proofs.lemmas.Str.{encode_ascii}
 use Rattle.std.proofs.lemmas.Bool.Decides.{nat_tests}
-use Rattle.std.proofs.lemmas.Fmt.{hex_byte}
-use Rattle.std.specs.Fmt.{format_spec, padded_integral, shown_prefix, radix_prefix, digits, digits_output, styled_digits_output}
-use Rattle.std.specs.Option.{option_map}
 use Rattle.std.specs.Int.{is_in_range}
 use Rattle.std.specs.Char.{is_ascii_graphic}
 use Rattle.board.specs.Lines.{capital_pair, letter_text, word_text, condition_text}
-
--- a byte in upper-case hex, as a hole with options writes it
-pub pair : (b : ℕ) (digits_of_b : _) (options : _) → b < 256 → digits_output digits_of_b ≡ Some (digits 16 true b) → options ≡ format_spec 32 0 4 2 (2 ^ 64 - 1) → styled_digits_output digits_of_b options ≡ Some (capital_pair b)
-pair b d s small e f =
-    (λ i. option_map (padded_integral (f i) false (shown_prefix (f i) (radix_prefix d.base))) (e i))
-    ∙ ap (λ (l : List ℕ). Some l) (hex_byte true b small)
 
 -- a byte that is not printable
 pub escaped : (b : ℕ) → (b < 32) ⊎ (127 ≤ b) → codes "\\x" ++ capital_pair b ≡ letter_text b

@@ -12,6 +12,7 @@ pub struct FaultLine(pub Fault);
 impl fmt::Display for FaultLine {
     ghost output = { λ l. Some (fault_line l.0) };
 
+    #[tactic(auto, using(crate::proofs::Lining::fault_line_lem))]
     fn fmt<W: fmt::Write>(&self, f: &mut fmt::Formatter<W>) -> fmt::Result {
         let fault = self.0;
         write!(

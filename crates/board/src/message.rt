@@ -15,6 +15,7 @@ struct Series([u8; 8], u8);
 impl fmt::Display for Series {
     ghost output = { λ s. Some (series_text s.0 s.1) };
 
+    #[tactic(auto, using(crate::proofs::Lining::series))]
     fn fmt<W: fmt::Write>(&self, f: &mut fmt::Formatter<W>) -> fmt::Result {
         write!(f, "{} {}", Word(trimmed(&self.0)), Letter(self.1))
     }
@@ -61,6 +62,7 @@ pub struct SummaryLine(pub Summary);
 impl fmt::Display for SummaryLine {
     ghost output = { λ l. Some (summary_line l.0) };
 
+    #[tactic(auto, using(crate::proofs::Lining::summary_line_lem))]
     fn fmt<W: fmt::Write>(&self, f: &mut fmt::Formatter<W>) -> fmt::Result {
         let s = &self.0;
         write!(

@@ -5,14 +5,14 @@ use Rattle.text.specs.Word.{word_list}
 use Rattle.entry.specs.Fields.{Complaint, complaint, Line}
 use Rattle.entry.specs.declared.board.Entry.{Entry}
 use Rattle.entry.specs.declared.problem.Problem.{Problem}
-use Rattle.entry.specs.declared.words.Words.{Words}
+use Rattle.entry.specs.declared.words.Fields.{Fields}
 
 -- a problem as a complaint
 abbrev pub complaint_of : Problem → Complaint
 complaint_of p = complaint p.word.now p.trouble
 
 -- what is left of a line, as its words
-abbrev pub line_of : Words → Line
+abbrev pub line_of : Fields → Line
 line_of w = record { verb = w.verb.now; words = word_list w.rest.0.now }
 
 -- what a field gave, and the line that it left

@@ -4,9 +4,9 @@ ghost use Rattle.entry.specs.Entries.{update_in, summary_in, send_in, entry_of};
 ghost use Rattle.entry.specs.Shown.{line_of, taken, answered};
 
 use crate::problem::{Problem, Trouble};
-use crate::words::Words;
+use crate::words::Fields;
 use feed::{Summary, Update};
-use text::uncommented;
+use text::{Words, uncommented};
 
 // A message for the frame that is being filled, or the order to send it.
 #[derive(Clone, Copy)]
@@ -17,46 +17,46 @@ pub enum Entry {
 }
 
 // The fields of an update.
-fn update<'a>(words: &mut Words<'a>) -> Result<Entry, Problem<'a>>
-    ensures { taken result (line_of words.new) ≡ update_in (line_of words.old) }
+fn update<'a>(fields: &mut Fields<'a>) -> Result<Entry, Problem<'a>>
+    ensures { taken result (line_of fields.new) ≡ update_in (line_of fields.old) }
 {
     let update = Update {
-        symbol: words.symbol()?,
-        auction: words.letter()?,
-        reference: words.price()?,
-        buy: words.number()?,
-        sell: words.number()?,
-        indicative: words.price()?,
-        auction_only: words.price()?,
-        condition: words.condition()?,
-        bid: words.price()?,
-        offer: words.price()?,
-        offset: words.number()?,
+        symbol: fields.symbol()?,
+        auction: fields.letter()?,
+        reference: fields.price()?,
+        buy: fields.number()?,
+        sell: fields.number()?,
+        indicative: fields.price()?,
+        auction_only: fields.price()?,
+        condition: fields.condition()?,
+        bid: fields.price()?,
+        offer: fields.price()?,
+        offset: fields.number()?,
     };
-    words.end()?;
+    fields.end()?;
     Ok(Entry::Update(update))
 }
 
 // The fields of a summary.
-fn summary<'a>(words: &mut Words<'a>) -> Result<Entry, Problem<'a>>
-    ensures { taken result (line_of words.new) ≡ summary_in (line_of words.old) }
+fn summary<'a>(fields: &mut Fields<'a>) -> Result<Entry, Problem<'a>>
+    ensures { taken result (line_of fields.new) ≡ summary_in (line_of fields.old) }
 {
     let summary = Summary {
-        symbol: words.symbol()?,
-        auction: words.letter()?,
-        price: words.price()?,
-        contracts: words.number()?,
-        offset: words.number()?,
+        symbol: fields.symbol()?,
+        auction: fields.letter()?,
+        price: fields.price()?,
+        contracts: fields.number()?,
+        offset: fields.number()?,
     };
-    words.end()?;
+    fields.end()?;
     Ok(Entry::Summary(summary))
 }
 
 // A send has no fields.
-fn send<'a>(words: &mut Words<'a>) -> Result<Entry, Problem<'a>>
-    ensures { taken result (line_of words.new) ≡ send_in (line_of words.old) }
+fn send<'a>(fields: &mut Fields<'a>) -> Result<Entry, Problem<'a>>
+    ensures { taken result (line_of fields.new) ≡ send_in (line_of fields.old) }
 {
-    words.end()?;
+    fields.end()?;
     Ok(Entry::Send)
 }
 
@@ -64,15 +64,15 @@ fn send<'a>(words: &mut Words<'a>) -> Result<Entry, Problem<'a>>
 pub fn parse(line: &[u8]) -> Result<Option<Entry>, Problem<'_>>
     ensures { answered result ≡ entry_of line.now }
 {
-    let mut rest = text::Words(uncommented(line));
+    let mut rest = Words(uncommented(line));
     let Some(verb) = rest.next() else {
         return Ok(None);
     };
-    let mut words = Words { verb, rest };
+    let mut fields = Fields { verb, rest };
     let entry = match verb {
-        b"update" => update(&mut words)?,
-        b"summary" => summary(&mut words)?,
-        b"send" => send(&mut words)?,
+        b"update" => update(&mut fields)?,
+        b"summary" => summary(&mut fields)?,
+        b"send" => send(&mut fields)?,
         _ => {
             return Err(Problem {
                 word: verb,

@@ -5,16 +5,16 @@ ghost use Rattle.entry.specs.Shown.{line_of, taken, word_taken};
 
 use crate::fields::{condition_of, letter_of, number_of};
 use crate::problem::{Problem, Trouble};
-use text::{dollars, padded};
+use text::{Words, dollars, padded};
 
-// What is left of a line behind its verb.
+// A line's verb, and the words that no field has taken.
 #[derive(Drop)]
-pub struct Words<'a> {
+pub struct Fields<'a> {
     pub verb: &'a [u8],
-    pub rest: text::Words<'a>,
+    pub rest: Words<'a>,
 }
 
-impl<'a> Words<'a> {
+impl<'a> Fields<'a> {
     // The next word; a line that lacks it is a problem of its verb.
     fn word(&mut self) -> Result<&'a [u8], Problem<'a>>
         ensures { word_taken result (line_of self.new) ≡ word_in (line_of self.old) }
@@ -25,46 +25,51 @@ impl<'a> Words<'a> {
         })
     }
 
-    // The next word as what `parse` reads it as; a word that it does not read is a problem.
+    // The next word as the value that it writes; a word that writes none is a problem.
+    // The kinds of fields have names below, so that no entry can pair a reading with another's trouble.
     fn field<T, F: FnOnce(&'a [u8]) -> Option<T> + Drop>(
         &mut self,
-        parse: F,
+        value_of: F,
         trouble: Trouble,
     ) -> Result<T, Problem<'a>>
-        requires { F.IsAlwaysCallable parse }
-        ensures { (read : List ℕ → Option T) → ((word : _) (o : _) → F.post parse word o → o ≡ read word.now) → taken result (line_of self.new) ≡ field_in read trouble (line_of self.old) }
+        requires { F.IsAlwaysCallable value_of }
+        ensures { (read : List ℕ → Option T) → ((word : _) (o : _) → F.post value_of word o → o ≡ read word.now) → taken result (line_of self.new) ≡ field_in read trouble (line_of self.old) }
     {
         let word = self.word()?;
-        parse(word).ok_or(Problem { word, trouble })
+        value_of(word).ok_or(Problem { word, trouble })
     }
 
-    // The kinds of fields by name, so that no entry can pair a reading with another's trouble.
+    // The next word as a symbol.
     pub fn symbol(&mut self) -> Result<[u8; 8], Problem<'a>>
         ensures { taken result (line_of self.new) ≡ symbol_in (line_of self.old) }
     {
+        // a closure, since a function of another crate is not covered by name
         self.field(|word| padded(word), Trouble::Symbol)
     }
 
-    // An auction letter.
+    // The next word as an auction letter.
     pub fn letter(&mut self) -> Result<u8, Problem<'a>>
         ensures { taken result (line_of self.new) ≡ letter_in (line_of self.old) }
     {
         self.field(letter_of, Trouble::Letter)
     }
 
-    // In ten-thousandths of a dollar.
+    // The next word as a price, in ten-thousandths of a dollar.
     pub fn price(&mut self) -> Result<u64, Problem<'a>>
         ensures { taken result (line_of self.new) ≡ price_in (line_of self.old) }
     {
+        // a closure, as in `symbol`
         self.field(|word| dollars(word), Trouble::Price)
     }
 
+    // The next word as a whole number of 32 bits.
     pub fn number(&mut self) -> Result<u32, Problem<'a>>
         ensures { taken result (line_of self.new) ≡ number_in (line_of self.old) }
     {
         self.field(number_of, Trouble::Number)
     }
 
+    // The next word as a condition.
     pub fn condition(&mut self) -> Result<u8, Problem<'a>>
         ensures { taken result (line_of self.new) ≡ condition_in (line_of self.old) }
     {

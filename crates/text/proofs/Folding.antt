@@ -26,9 +26,9 @@ past n ds false h = refl
 step : (d f : Bool) (m : ℕ) (cs : List ℕ) → ltb m (2 ^ 64) ≡ f → (x : Option ℕ) → x ≡ cond d (cond f (Some m) None) None →
     (x ≡ None → cond (d && all_ascii_digits cs) (fitting (number_after m cs)) None ≡ None)
     × ((k : ℕ) → x ≡ Some k → cond (d && all_ascii_digits cs) (fitting (number_after m cs)) None ≡ read_on k cs)
-step false f m cs e x h = ((λ _. refl), λ k g. absurd (let z : ◌≡◌ {A = ℕ} 0 1 = cc in omega arith))
-step true false m cs e x h = ((λ _. past m cs (all_ascii_digits cs) (ltb-false m (2 ^ 64) e)), λ k g. absurd (let z : ◌≡◌ {A = ℕ} 0 1 = cc in omega arith))
-step true true m cs e x h = ((λ g. absurd (let z : ◌≡◌ {A = ℕ} 0 1 = cc in omega arith)), λ k g. let s : m ≡ k = cc in ap (λ n. read_on n cs) s)
+step false f m cs e x h = ((λ _. refl), λ k g. absurd cc)
+step true false m cs e x h = ((λ _. past m cs (all_ascii_digits cs) (ltb-false m (2 ^ 64) e)), λ k g. absurd cc)
+step true true m cs e x h = ((λ g. absurd cc), λ k g. let s : m ≡ k = cc in ap (λ n. read_on n cs) s)
 
 -- the loop ends where a digit cannot be appended
 pub read_on_none : (n c : ℕ) (cs : List ℕ) → appended_to n c ≡ None → read_on n (c ∷ cs) ≡ None

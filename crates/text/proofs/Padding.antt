@@ -82,4 +82,4 @@ symbol_back word symbol e = go (is_symbol word) refl e
         let g : symbol ≡ word ++ replicate (8 - length word) 32 = cc in
         let all = and_parts (ltb 0 (length word) && ltb (length word) 9) (all_graphic word) p in
         ap trimmed_of g ∙ trim_padded word (8 - length word) all.1
-    go false p f = absurd (let z : ◌≡◌ {A = ℕ} 0 1 = cc in omega arith)
+    go false p f = absurd cc

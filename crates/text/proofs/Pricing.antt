@@ -23,8 +23,8 @@ numeral_from ds n e = go (is_numeral ds) (ltb (number_of ds) (2 ^ 64)) refl refl
   where
     go : (s t : Bool) → is_numeral ds ≡ s → ltb (number_of ds) (2 ^ 64) ≡ t → Some n ≡ cond s (cond t (Some (number_of ds)) None) None → (is_numeral ds ≡ true) × (n ≡ number_of ds) × (n < 2 ^ 64)
     go true true p q f = let g : n ≡ number_of ds = cc in (p, g, omega (arith, ltb-true (number_of ds) (2 ^ 64) q))
-    go true false p q f = absurd (let z : ◌≡◌ {A = ℕ} 0 1 = cc in omega arith)
-    go false t p q f = absurd (let z : ◌≡◌ {A = ℕ} 0 1 = cc in omega arith)
+    go true false p q f = absurd cc
+    go false t p q f = absurd cc
 
 -- where it is not, there is no numeral, or its number is too large
 pub numeral_not : (ds : List ℕ) → None ≡ whole_of ds → is_numeral ds ≡ true → 2 ^ 64 ≤ number_of ds
@@ -32,7 +32,7 @@ unfolding whole_of
 numeral_not ds e p = go (ltb (number_of ds) (2 ^ 64)) refl (e ∙ cond-true (is_numeral ds) (fitting (number_of ds)) None p)
   where
     go : (t : Bool) → ltb (number_of ds) (2 ^ 64) ≡ t → None ≡ cond t (Some (number_of ds)) None → 2 ^ 64 ≤ number_of ds
-    go true q f = absurd (let z : ◌≡◌ {A = ℕ} 0 1 = cc in omega arith)
+    go true q f = absurd cc
     go false q f = grind (arith, nat_tests)
 
 pub decimals_none : (ds : List ℕ) → length ds ≤ 4 → None ≡ whole_of ds → None ≡ decimals_of ds
@@ -110,7 +110,7 @@ dollars_no_decimals word h e = go (is_decimals (after_point word)) refl
     point = lt-ltb (length (before_point word)) (length word) h
 
     go : (s : Bool) → is_decimals (after_point word) ≡ s → None ≡ dollars_of word
-    go true p = absurd (let f = cond-true (is_decimals (after_point word)) (Some (ten_thousandths (after_point word))) None p in let z : ◌≡◌ {A = ℕ} 0 1 = cc in omega arith)
+    go true p = absurd (let f = cond-true (is_decimals (after_point word)) (Some (ten_thousandths (after_point word))) None p in cc)
     go false p = let f : is_dollars word ≡ false = rw (point, p) (and_right (is_numeral (before_point word)) false refl) in rw f
 
 -- decimals follow the point
@@ -133,4 +133,4 @@ dollars_full word n d r e h f k = go (is_decimals (after_point word)) refl
         let t : d ≡ ten_thousandths (after_point word) = cc in
         let is : is_dollars word ≡ true = rw (p.0, point, q) in
         fits is (omega (arith, p.1, t)) r k
-    go false q = absurd (let g = cond-false (is_decimals (after_point word)) (Some (ten_thousandths (after_point word))) None q in let z : ◌≡◌ {A = ℕ} 0 1 = cc in omega arith)
+    go false q = absurd (let g = cond-false (is_decimals (after_point word)) (Some (ten_thousandths (after_point word))) None q in cc)

@@ -3,7 +3,7 @@ use Rattle.std.proofs.Common.{◌≡◌, ℕ, ◌+◌, ◌-◌, ◌/◌, ◌%◌
 use Rattle.std.proofs.lemmas.Fmt.{decimal_digit, decimal_step, hex_byte}
 use Rattle.std.proofs.lemmas.Bool.{eq-eqb, ne_eqb, ltb-true, ltb-false}
 use Rattle.std.proofs.lemmas.List.{take_all, take_more, take_rest}
-use Rattle.std.specs.Fmt.{format_spec, padded_integral, shown_prefix, radix_prefix, char_count, styled_decimal, digits, digits_output, styled_digits_output}
+use Rattle.std.specs.Fmt.{format_spec, padded_integral, shown_prefix, radix_prefix, char_count, styled_decimal, digit_glyph, digits, digits_output, styled_digits_output}
 use Rattle.std.specs.Option.{option_map}
 use Rattle.text.specs.Hex.{hex_pair, blank_pairs, hex_text}
 use Rattle.text.specs.Price.{two_digits, price_text}
@@ -41,10 +41,11 @@ with_rest n e =
     rw (t, c, r)
 
 -- a byte in hex, as a hole with options writes it
-pub pair : (b : ℕ) (digits_of_b : _) (options : _) → b < 256 → digits_output digits_of_b ≡ Some (digits 16 false b) → options ≡ format_spec 32 0 4 2 (2 ^ 64 - 1) → styled_digits_output digits_of_b options ≡ Some (hex_pair b)
-pair b d s small e f =
+pub pair : (upper : Bool) (b : ℕ) (digits_of_b : _) (options : _) → b < 256 → digits_output digits_of_b ≡ Some (digits 16 upper b) → options ≡ format_spec 32 0 4 2 (2 ^ 64 - 1)
+    → styled_digits_output digits_of_b options ≡ Some (digit_glyph upper (b / 16) ∷ (digit_glyph upper (b % 16) ∷ []))
+pair upper b d s small e f =
     (λ i. option_map (padded_integral (f i) false (shown_prefix (f i) (radix_prefix d.base))) (e i))
-    ∙ ap (λ (l : List ℕ). Some l) (hex_byte false b small)
+    ∙ ap (λ (l : List ℕ). Some l) (hex_byte upper b small)
 
 pub none_shown : (bs : List ℕ) → length bs < 1 → [] ≡ hex_text bs
 unfolding hex_text

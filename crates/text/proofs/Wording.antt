@@ -77,13 +77,13 @@ at_some test line i e = go (ltb (position_or_len test line) (length line)) refl 
   where
     go : (t : Bool) → ltb (position_or_len test line) (length line) ≡ t → Some i ≡ cond t (Some (position_or_len test line)) None → (i ≡ span test line) × (i < length line)
     go true p f = let g : i ≡ position_or_len test line = cc in (g ∙ span_is test line, omega (arith, ltb-true (position_or_len test line) (length line) p, g))
-    go false p f = absurd (let z : ◌≡◌ {A = ℕ} 0 1 = cc in omega arith)
+    go false p f = absurd cc
 
 pub at_none : (test : ℕ → Bool) (line : List ℕ) → None ≡ position test line → length line ≤ span test line
 at_none test line e = go (ltb (position_or_len test line) (length line)) refl e
   where
     go : (t : Bool) → ltb (position_or_len test line) (length line) ≡ t → None ≡ cond t (Some (position_or_len test line)) None → length line ≤ span test line
-    go true p f = absurd (let z : ◌≡◌ {A = ℕ} 0 1 = cc in omega arith)
+    go true p f = absurd cc
     go false p f = omega (arith, ltb-false (position_or_len test line) (length line) p, span_is test line)
 
 -- all of the line, where no byte passes the test

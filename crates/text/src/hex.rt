@@ -10,6 +10,7 @@ use std::fmt;
 pub fn hex_digit(b: u8) -> Option<u8>
     ensures { result ≡ hex_digit_of b }
 {
+    // by arms, so that both cases are seen
     let value = match b {
         b'0'..=b'9' => b - b'0',
         b'A'..=b'F' => b - b'A' + 10,
@@ -24,6 +25,7 @@ pub fn hex_digit(b: u8) -> Option<u8>
 pub enum HexError<'a> {
     // the word is no pairs of hex digits
     NotHex(&'a [u8]),
+    // memory is short
     Alloc(AllocError),
 }
 
@@ -39,7 +41,7 @@ impl From<AllocError> for HexError<'_> {
 fn is_pairs(word: &[u8]) -> bool
     ensures { result ≡ is_hex_pairs word.now }
 {
-    word.len() % 2 == 0 && word.iter().all(|b| hex_digit(*b).is_some())
+    word.len() % 2 == 0 && word.iter().all(|b| b.is_ascii_hexdigit())
 }
 
 // Puts the bytes that pairs of hex digits write behind `out`.
@@ -52,11 +54,8 @@ pub fn push_word<'a>(out: &mut Vec<u8>, word: &'a [u8]) -> Result<(), HexError<'
         return Err(HexError::NotHex(word));
     }
     out.reserve(word.len() / 2)?;
-    // a pattern names both digits of a pair, where a chunk would be indexed
-    let mut rest = word;
-    while let [high, low, tail @ ..] = rest {
+    for [high, low] in word.as_chunks::<2>().0 {
         out.push_reserved(hex_digit(*high).unwrap() * 16 + hex_digit(*low).unwrap());
-        rest = tail;
     }
     Ok(())
 }
@@ -69,6 +68,7 @@ impl fmt::Display for Hex<'_> {
     ghost output = { λ h. Some (hex_text h.0.now) };
 
     fn fmt<W: fmt::Write>(&self, f: &mut fmt::Formatter<W>) -> fmt::Result {
+        // the bytes are copied out: of one behind a reference the check has no bound
         let &[first, ref others @ ..] = self.0 else {
             return Ok(());
         };
@@ -90,6 +90,7 @@ pub fn push_hex(out: &mut String, bytes: &[u8]) -> Result<(), AllocError>
 }
 
 // What `Hex` shows, `push_word` reads back word by word.
+#[tactic(auto, using(crate::proofs::Reading::reads_back))]
 pub fn hex_reads_back()
     ensures { HexReadsBack }
 {}

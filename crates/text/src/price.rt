@@ -53,6 +53,7 @@ impl fmt::Display for Price {
 }
 
 // `dollars` reads back what a price shows.
+#[tactic(auto, using(crate::proofs::Returning::price_back))]
 pub fn price_reads_back()
     ensures { PriceReadsBack }
 {}

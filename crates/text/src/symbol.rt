@@ -6,10 +6,11 @@ ghost use Rattle.text.specs.Symbol.{is_symbol, padded_of, trimmed_of, SymbolRead
 fn is_symbol(word: &[u8]) -> bool
     ensures { result ≡ is_symbol word.now }
 {
-    !word.is_empty() && word.len() <= 8 && word.iter().all(|b| b.is_ascii_graphic())
+    matches!(word.len(), 1..=8) && word.iter().all(|b| b.is_ascii_graphic())
 }
 
 // A word of one to eight bytes, each from 0x21 to 0x7E, with blanks behind it up to eight; none for another word.
+#[tactic(auto, using(crate::proofs::Padding::not_symbol, crate::proofs::Padding::padded_some))]
 pub fn padded(word: &[u8]) -> Option<[u8; 8]>
     ensures { result ≡ padded_of word.now }
 {
@@ -34,6 +35,7 @@ pub fn trimmed(symbol: &[u8]) -> &[u8]
 }
 
 // `trimmed` gives back the word that `padded` took.
+#[tactic(auto, using(crate::proofs::Padding::symbol_back))]
 pub fn symbol_reads_back()
     ensures { SymbolReadsBack }
 {}

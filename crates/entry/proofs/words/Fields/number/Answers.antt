@@ -1,7 +1,7 @@
 use Rattle.std.proofs.Common.{rules}
 use Rattle.entry.specs.Values.{number_of}
 use Rattle.entry.specs.Fields.{number_in}
-use Rattle.entry.proofs.words.Words.number.Goals as goal
+use Rattle.entry.proofs.words.Fields.number.Goals as goal
 
 pub returns : goal.returns
 unfolding number_in

@@ -1,7 +1,7 @@
 use Rattle.std.proofs.Common.{rules}
 use Rattle.text.specs.Price.{dollars_of}
 use Rattle.entry.specs.Fields.{price_in}
-use Rattle.entry.proofs.words.Words.price.Goals as goal
+use Rattle.entry.proofs.words.Fields.price.Goals as goal
 
 pub returns : goal.returns
 unfolding price_in

@@ -1,7 +1,7 @@
 use Rattle.std.proofs.Common.{rules}
 use Rattle.text.specs.Symbol.{padded_of}
 use Rattle.entry.specs.Fields.{symbol_in}
-use Rattle.entry.proofs.words.Words.symbol.Goals as goal
+use Rattle.entry.proofs.words.Fields.symbol.Goals as goal
 
 pub returns : goal.returns
 unfolding symbol_in

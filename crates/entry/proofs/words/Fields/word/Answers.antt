@@ -1,7 +1,7 @@
 use Rattle.text.specs.Word.{word_list}
 use Rattle.entry.specs.Fields.{word_in}
 use Rattle.entry.proofs.Taking.{next_taken}
-use Rattle.entry.proofs.words.Words.word.Goals as goal
+use Rattle.entry.proofs.words.Fields.word.Goals as goal
 
 pub returns : goal.returns
 unfolding word_in

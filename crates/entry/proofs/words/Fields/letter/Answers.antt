@@ -1,7 +1,7 @@
 use Rattle.std.proofs.Common.{rules}
 use Rattle.entry.specs.Values.{letter_of}
 use Rattle.entry.specs.Fields.{letter_in}
-use Rattle.entry.proofs.words.Words.letter.Goals as goal
+use Rattle.entry.proofs.words.Fields.letter.Goals as goal
 
 pub returns : goal.returns
 unfolding letter_in

@@ -1,7 +1,7 @@
 use Rattle.std.proofs.Common.{sym, ap}
 use Rattle.entry.specs.Fields.{end_in, end_of}
 use Rattle.entry.specs.Shown.{line_of}
-use Rattle.entry.proofs.words.Words.end.Goals as goal
+use Rattle.entry.proofs.words.Fields.end.Goals as goal
 
 pub returns-in-None : goal.returns-in-None
 unfolding end_in
