@@ -2,6 +2,8 @@
 use Rattle.std.specs.Prelude.{ℕ, Bool, true, false, cond, not, ◌&&◌, ◌||◌, List, [], ◌∷◌, map, Some, None, Option, ◌==◌, nat_le}
 use Rattle.std.specs.List.{list_all}
 use Rattle.ranked.specs.Order.{entered}
+use Rattle.ranked.specs.View.{entries, free}
+use Rattle.ranked.specs.declared.list.RankedList.{RankedList}
 use Rattle.away.specs.Away.{AwayBid, AwayOffer}
 use Rattle.market.specs.Market.{Pair, is_price, highest, lowest}
 use Rattle.market.specs.declared.refusal.Refusal.{Refusal}
@@ -33,6 +35,14 @@ price_at exchange price e (x ∷ xs) = cond (exchange x == e) (Some (price x)) (
 -- why a price is not taken, if so; `place` says whether there is a place for it
 abbrev pub post_refusal : Bool → ℕ → ℕ → Option Refusal
 post_refusal place e p = cond place (cond (is_exchange e && is_price p) None (Some Unfit)) (Some NoFreePlace)
+
+-- whether a ranked list has a place for an exchange's price: its own, or a free one
+abbrev pub place_in : {X : Type 0} {r : _} → (X → ℕ) → ℕ → RankedList X r → Bool
+place_in exchange e l = quoted exchange e (entries l) || free l
+
+-- why an exchange's price is not taken into a ranked list, if so
+abbrev pub refusal_in : {X : Type 0} {r : _} → (X → ℕ) → RankedList X r → ℕ → ℕ → Option Refusal
+refusal_in exchange l e p = post_refusal (place_in exchange e l) e p
 
 -- why a price cannot be cleared, if so
 abbrev pub clear_refusal : ℕ → Option Refusal

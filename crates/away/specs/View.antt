@@ -1,7 +1,7 @@
 -- A board as two plain lists.
-use Rattle.std.specs.Prelude.{ℕ, Bool, ◌||◌, List, Option}
-use Rattle.ranked.specs.View.{entries, room, free}
-use Rattle.away.specs.Board.{quoted, price_at, post_refusal}
+use Rattle.std.specs.Prelude.{ℕ, Bool, List, Option}
+use Rattle.ranked.specs.View.{entries, room}
+use Rattle.away.specs.Board.{place_in, price_at, refusal_in}
 use Rattle.away.specs.Away.{AwayBid, AwayOffer}
 use Rattle.away.specs.declared.board.AwayBoard.{AwayBoard}
 use Rattle.market.specs.declared.refusal.Refusal.{Refusal}
@@ -22,17 +22,17 @@ offer_room b = room b.offers.list
 
 -- whether there is a place for an exchange's price: its own, or a free one
 abbrev pub bid_place : ℕ → AwayBoard → Bool
-bid_place e b = quoted (λ x. x.exchange) e (bids_of b) || free b.bids.list
+bid_place e b = place_in (λ x. x.exchange) e b.bids.list
 
 abbrev pub offer_place : ℕ → AwayBoard → Bool
-offer_place e b = quoted (λ x. x.exchange) e (offers_of b) || free b.offers.list
+offer_place e b = place_in (λ x. x.exchange) e b.offers.list
 
 -- why an exchange's price is not taken, if so
 abbrev pub bid_refusal : AwayBoard → ℕ → ℕ → Option Refusal
-bid_refusal b e p = post_refusal (bid_place e b) e p
+bid_refusal b e p = refusal_in (λ x. x.exchange) b.bids.list e p
 
 abbrev pub offer_refusal : AwayBoard → ℕ → ℕ → Option Refusal
-offer_refusal b e p = post_refusal (offer_place e b) e p
+offer_refusal b e p = refusal_in (λ x. x.exchange) b.offers.list e p
 
 -- the price that an exchange has
 abbrev pub bid_price : ℕ → AwayBoard → Option ℕ

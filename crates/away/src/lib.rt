@@ -6,4 +6,4 @@ mod prices;
 mod quotes;
 
 pub use board::AwayBoard;
-pub use prices::{Away, AwayBid, AwayOffer};
+pub use prices::{AwayBid, AwayOffer, AwayPrice};

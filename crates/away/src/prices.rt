@@ -4,19 +4,21 @@ ghost use Rattle.std.proofs.Common.{rules};
 
 use ranked::Rank;
 
-// An away price of the side on which the higher price is the better, or on which the lower is.
+// An exchange's price; HIGHER says whether the higher price is the better one.
 #[derive(Clone, Copy)]
-pub struct Away<const HIGHER: bool> {
-    // A to Z
+pub struct AwayPrice<const HIGHER: bool> {
+    // A to Z on a board; any byte may be lent or asked for, and another is refused
     pub exchange: u8,
     pub price: u64,
 }
 
-pub type AwayBid = Away<true>;
+// Of bids the higher is better.
+pub type AwayBid = AwayPrice<true>;
 
-pub type AwayOffer = Away<false>;
+// Of offers the lower is better.
+pub type AwayOffer = AwayPrice<false>;
 
-impl<const HIGHER: bool> Rank for Away<HIGHER> {
+impl<const HIGHER: bool> Rank for AwayPrice<HIGHER> {
     ghost better = { better HIGHER };
 
     ghost apart = { Prim.search rules };
@@ -25,7 +27,7 @@ impl<const HIGHER: bool> Rank for Away<HIGHER> {
 
     ghost levels = { Prim.search rules };
 
-    fn beats(&self, other: &Away<HIGHER>) -> bool {
+    fn beats(&self, other: &AwayPrice<HIGHER>) -> bool {
         if HIGHER {
             other.price < self.price
         } else {

@@ -5,10 +5,11 @@ ghost use Rattle.away.specs.Board.{once, fit_quotes};
 
 mod calls;
 
-use crate::prices::Away;
+use crate::prices::AwayPrice;
 use ranked::{Rank, RankedList};
 
-// What a list of away prices reads of an entry. The list is over any such entry, since a struct with a ghost field takes no `bool` const parameter.
+// What a list of away prices reads of an entry.
+// The list is over any such entry: over `AwayPrice<SIDE>` itself, SIDE a bool or a number, the borrow check refuses calls on it.
 pub(crate) trait Quote: Rank {
     ghost exchange: { Self → ℕ };
 
@@ -21,7 +22,7 @@ pub(crate) trait Quote: Rank {
         ensures { result ≡ price self.now };
 }
 
-impl<const HIGHER: bool> Quote for Away<HIGHER> {
+impl<const HIGHER: bool> Quote for AwayPrice<HIGHER> {
     ghost exchange = { λ x. x.exchange };
 
     ghost price = { λ x. x.price };

@@ -84,7 +84,7 @@ fn fault_numbers(at: Stand, fault: &Fault) -> [u64; NUMBERS]
 }
 
 // A message, told.
-fn message_told(at: Stand, message: &Message) -> Told
+fn message_told(at: Stand, message: &Message<'_>) -> Told
     requires { at.place + 6 < 2 ^ 64 }
     ensures { result ≡ notice_told at (notice_of message.now) }
 {
@@ -144,7 +144,7 @@ impl<'a> Call<'a> {
     }
 
     // Where there is no message, what to pass next is what was passed.
-    fn stay(&self, at: usize) -> Stand
+    fn stays_at(&self, at: usize) -> Stand
         ensures { result ≡ staying self.now.place self.now.left at }
     {
         Stand {
@@ -175,11 +175,11 @@ impl<'a> Call<'a> {
             }
             Ok(None) => Told {
                 kind: Kind::End,
-                numbers: self.stay(0).numbers(&[]),
+                numbers: self.stays_at(0).numbers(&[]),
             },
             Err(fault) => Told {
                 kind: Kind::Fault,
-                numbers: fault_numbers(self.stay(fault.place), &fault),
+                numbers: fault_numbers(self.stays_at(fault.place), &fault),
             },
         }
     }

@@ -3,7 +3,8 @@ use Rattle.std.proofs.Common.{◌≡◌, ℕ, zero, suc, ◌+◌, ◌-◌, ◌<�
 use Rattle.std.specs.List.{list_all, prefix_len, slice_get, sum_by, between}
 use Rattle.std.specs.List.Sorted.{IsPartitionedBy, IsPartitionPoint}
 use Rattle.std.proofs.lemmas.List.{at_drop_all}
-use Rattle.std.proofs.lemmas.List.Sums.{prefix_len_is, sum_by-cons}
+use Rattle.std.proofs.lemmas.List.Recursion.{is_sum_by}
+use Rattle.std.proofs.lemmas.List.Sums.{prefix_len_is, AllPass-from_list_all}
 use Rattle.std.proofs.lemmas.Bool.{cond-true, cond-false, cond_both, cases_Bool, and_parts, and_left, not-true, not_from_true, not_from_false, both_ways}
 use Rattle.ranked.specs.Level.{not_worse, first_level, level_at, level_with}
 use Rattle.ranked.specs.Order.{level, entered, in_its_place, in_rank}
@@ -40,11 +41,6 @@ pub prefix_from_point :
     {X : Type 0} (p : X → Bool) (xs : List X) (n : ℕ) (d : X) → n ≤ length xs → IsPartitionPoint (λ y. p y ≡ true) (λ y. p y ≡ false) xs n → n ≡ prefix_len p xs
 prefix_from_point p xs n d le point = sym (prefix_len_is p xs n d le (λ k l. point.0 k d (omega arith) l) (λ l. point.1 n d (omega arith) l))
 
-passes_at : {X : Type 0} (p : X → Bool) (xs : List X) (i : ℕ) (d : X) → i < length xs → list_all p xs ≡ true → p (get_or xs i d) ≡ true
-passes_at p [] i d lt h = absurd (omega arith)
-passes_at p (x ∷ xs) zero d lt h = (and_parts (p x) (list_all p xs) h).0
-passes_at p (x ∷ xs) (suc i) d lt h = passes_at p xs i d (omega arith) (and_parts (p x) (list_all p xs) h).1
-
 -- In the order of rank, what is not worse at the front is all that is level.
 module _ {X : Type 0} (b : X → X → Bool) (apart : (x y : X) → b x y ≡ true → b y x ≡ false) (carries : (x y z : X) → b x y ≡ true → b y z ≡ true → b x z ≡ true)
     (levels : (x y z : X) → level b x y ≡ true → level b y z ≡ true → level b x z ≡ true) where
@@ -78,7 +74,7 @@ module _ {X : Type 0} (b : X → X → Bool) (apart : (x y : X) → b x y ≡ tr
   parted x (y ∷ ys) h zero zero d le lt p = p
   parted x (y ∷ ys) h zero (suc j) d le lt p =
       let a = and_parts (list_all (λ z. not (b z y)) ys) (in_rank b ys) h in
-      let zy = not-true (b (get_or ys j d) y) (passes_at (λ z. not (b z y)) ys j d (omega arith) a.0) in
+      let zy = not-true (b (get_or ys j d) y) (AllPass-from_list_all (λ z. not (b z y)) ys a.0 j d (omega arith)) in
       ⊎_elim (λ t. absurd (both_ways (b x (get_or ys j d)) (not-true (b x (get_or ys j d)) p) (worse_behind x y (get_or ys j d) t zy))) (λ f. not_from_false (b x y) f) (cases_Bool (b x y))
   parted x (y ∷ ys) h (suc i) zero d le lt p = absurd (omega arith)
   parted x (y ∷ ys) h (suc i) (suc j) d le lt p = parted x ys (and_parts (list_all (λ z. not (b z y)) ys) (in_rank b ys) h).1 i j d (omega arith) (omega arith) p
@@ -163,5 +159,4 @@ module _ {X : Type 0} (b : X → X → Bool) (apart : (x y : X) → b x y ≡ tr
   level_whole (suc at) (x ∷ xs) h = level_whole at xs (and_parts (list_all (λ z. not (b z x)) xs) (in_rank b xs) h).1
 
 pub total_is : {X : Type 0} (f : X → ℕ) (xs : List X) → total f xs ≡ sum_by f xs
-total_is f [] = refl
-total_is f (x ∷ xs) = ap (λ n. f x + n) (total_is f xs) ∙ sym (sum_by-cons f x xs)
+total_is f xs = is_sum_by (total f) f refl (λ _ _. refl) xs

@@ -13,6 +13,7 @@ pub const MOST_ENTRIES: usize = 512;
 #[derive(Drop)]
 pub struct RankedList<'a, T: Rank> {
     places: &'a mut [T],
+    // counted here, since the places are lent and may be more than are used
     len: usize,
     ghost fits: { len ≤ min 512 (length places.now) },
     ghost order: { in_rank T.better (take len places.now) ≡ true },

@@ -2,7 +2,8 @@
 ghost use Rattle.std.specs.Prelude.{◌≡◌, ℕ, Bool, true, false};
 ghost use Rattle.ranked.specs.Order.{level};
 
-// What has a rank: of two, one is better or they are level, and both relations carry through a third. It is no `Ord`, since entries that are level need not be equal.
+// What has a rank: of two, one is better or they are level, and both relations carry through a third.
+// It is no `Ord`, since entries that are level need not be equal.
 pub trait Rank {
     // whether the first is better than the second
     ghost better: { Self → Self → Bool };

@@ -18,7 +18,7 @@ pub struct Claim {
     pub size: u32,
 }
 
-// Whether no claim is larger than a claim may be.
+// Whether no claim is larger than a claim may be. Apart, since behind other tests no proof is found of what `all` answers.
 fn all_small(claims: &[Claim]) -> bool
     ensures { result ≡ list_all (λ claim. nat_le claim.size 100000) claims.now }
 {

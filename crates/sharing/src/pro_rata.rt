@@ -21,6 +21,13 @@ fn claimed(claims: &[Claim]) -> u64
     claims.iter().map(|claim| u64::from(claim.size)).sum()
 }
 
+// One contract more where one is left and the share is not full.
+fn extra_for(left: u64, share: u32, size: u32) -> u32
+    ensures { result ≡ extra left share size }
+{
+    u32::from(share < size && left > 0)
+}
+
 // Contracts that are fewer than are claimed.
 #[derive(Clone, Copy)]
 struct Scarce<'a> {
@@ -33,7 +40,7 @@ struct Scarce<'a> {
     ghost small: { whole ≤ 51200000 },
 }
 
-impl<'a> Scarce<'a> {
+impl Scarce<'_> {
     // A size's part of the contracts, rounded down.
     #[tactic(auto, using(crate::specs::Laws::floor_le))]
     fn part(&self, size: u32) -> u32
@@ -68,13 +75,6 @@ impl<'a> Scarce<'a> {
             left -= u64::from(more);
         }
     }
-}
-
-// One contract more where one is left and the share is not full.
-fn extra_for(left: u64, share: u32, size: u32) -> u32
-    ensures { result ≡ extra left share size }
-{
-    u32::from(share < size && left > 0)
 }
 
 impl SharingRule for ProRata {

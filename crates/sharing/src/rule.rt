@@ -11,7 +11,8 @@ pub trait SharingRule {
     // The shares of a number of contracts among claims, in the claims' order.
     ghost means: { Self → ℕ → List Claim → List ℕ };
 
-    // Writes the claims' shares of n into the places brought; nothing where the ask is unfit.
+    // Writes the claims' shares of n into the places brought; nothing where the ask is unfit. Claims and places are two lent
+    // slices, so that no memory is taken.
     fn share(&self, n: u64, claims: &[Claim], shares: &mut [u32]) -> Result<(), Refusal>
         ensures answer { result_err result ≡ ask_refusal claims.now (length shares.old) }
         ensures after { shares.new ≡ places_after claims.now (means self.now n claims.now) shares.old }

@@ -9,11 +9,11 @@ ghost use Rattle.market.specs.Refusals.{unless};
 ghost use Rattle.away.specs.View.{bids_of, offers_of, bid_room, offer_room, bid_refusal, offer_refusal, bid_price, offer_price};
 
 use super::AwayBoard;
-use crate::prices::{Away, AwayBid, AwayOffer};
+use crate::prices::{AwayBid, AwayOffer, AwayPrice};
 use crate::quotes::PriceList;
 use market::{OutsideMarket, Refusal};
 
-// Each side has calls of its own, which callers name; what they do is written once, in `PriceList`.
+// Two calls a side, since with one each caller would pass the side. What they do is written once, in `PriceList`.
 impl<'a> AwayBoard<'a> {
     // A board without a price, over lent places.
     pub fn new(bids: &'a mut [AwayBid], offers: &'a mut [AwayOffer]) -> AwayBoard<'a>
@@ -50,7 +50,7 @@ impl<'a> AwayBoard<'a> {
         ensures bid_room { bid_room self.new ≡ bid_room self.old }
         ensures offer_room { offer_room self.new ≡ offer_room self.old }
     {
-        self.bids.post(Away { exchange, price })
+        self.bids.post(AwayPrice { exchange, price })
     }
 
     // An exchange's new offer replaces its former one; refused, and nothing is changed, where there is no place for it or it is unfit.
@@ -62,7 +62,7 @@ impl<'a> AwayBoard<'a> {
         ensures bid_room { bid_room self.new ≡ bid_room self.old }
         ensures offer_room { offer_room self.new ≡ offer_room self.old }
     {
-        self.offers.post(Away { exchange, price })
+        self.offers.post(AwayPrice { exchange, price })
     }
 
     // Clears an exchange's bid, present or not; refused where its letter is unfit.

@@ -8,7 +8,7 @@ use super::{MOST_ENTRIES, RankedList};
 use crate::rank::Rank;
 use crate::refusal::Refusal;
 
-// Puts x at a place before the last, which is free.
+// Puts x at a place, and moves what stands from there on up by one; the last place is free.
 fn put_in<T: Copy>(places: &mut [T], at: usize, x: T)
     requires { at < length places.old }
     ensures { places.new ≡ insert (take (length places.old - 1) places.old) at x }

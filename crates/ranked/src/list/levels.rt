@@ -19,7 +19,7 @@ fn sum<T: Fill>(entries: &[T]) -> u64
 fn fill<T: Fill + Copy>(entries: &mut [T], shares: &[u32])
     ensures { entries.new ≡ fills T.fill entries.old shares.now }
 {
-    // By index, since after a `zip` over `iter_mut` no element is known to the check.
+    // not `iter_mut().zip(shares)`: a proof is not told what is written through `iter_mut` under `zip`
     for (i, x) in entries.iter_mut().enumerate() {
         let Some(share) = shares.get(i) else {
             break;
@@ -35,7 +35,7 @@ impl<'a, T: Rank + Copy> RankedList<'a, T> {
         ensures all_that_is_level { result.now ≡ level_with T.better at (entries self.now) }
     {
         match self.get(at) {
-            Some(best) => &self.entries()[at..self.spot(&best)],
+            Some(first) => &self.entries()[at..self.spot(&first)],
             None => &[],
         }
     }
@@ -55,8 +55,8 @@ impl<'a, T: Fill + Copy> RankedList<'a, T> {
         ensures count { count self.new ≡ count self.old }
         ensures room { room self.new ≡ room self.old }
     {
-        if let Some(best) = self.get(at) {
-            let end = self.spot(&best);
+        if let Some(first) = self.get(at) {
+            let end = self.spot(&first);
             let entries = &mut self.places[..self.len];
             fill(&mut entries[at..end], shares);
         }
