@@ -6,7 +6,7 @@ ghost use Rattle.market.specs.Market.{Pair, Fit};
 pub trait OutsideMarket {
     ghost means: { Self → Pair };
 
-    // The bid and the offer.
+    // The bid and the offer, as a tuple: the form in which every market and layer answers.
     fn ask(&self) -> (Option<u64>, Option<u64>)
         ensures answer { result ≡ means self.now }
         ensures unchanged { self.exit.now ≡ self.entry.now };
