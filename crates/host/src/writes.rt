@@ -34,7 +34,7 @@ pub extern "C" fn opening_start(buffer: &mut [u8]) -> u32
     answer_of(writer::start(buffer))
 }
 
-// Writes an update behind a buffer's frame.
+// Writes an update behind a buffer's frame. C passes each field by itself, as no struct crosses to it.
 #[unsafe(no_mangle)]
 pub extern "C" fn opening_add_update(
     buffer: &mut [u8],
@@ -68,7 +68,7 @@ pub extern "C" fn opening_add_update(
     answer_of(writer::add(buffer, &update))
 }
 
-// Writes a summary behind a buffer's frame.
+// Writes a summary behind a buffer's frame, its fields passed in the same way.
 #[unsafe(no_mangle)]
 pub extern "C" fn opening_add_summary(
     buffer: &mut [u8],

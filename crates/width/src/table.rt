@@ -4,7 +4,7 @@ ghost use Rattle.width.specs.Widths.{looked_up, table_width, table_capped};
 
 use crate::rule::WidthRule;
 
-// The lowest bid of each row, and its width.
+// The lowest bid of each row, and its width: a constant table, as it is published.
 const ROWS: [(u64, u64); 8] = [
     (0, 5_000),
     (20_000, 8_000),
