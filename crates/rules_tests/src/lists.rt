@@ -145,6 +145,7 @@ fn order(rt: HostRuntime) {
     let mut list = RankedList::new(&mut space);
     for (step, at, rank, number, answer, numbers) in cases {
         assert_eq!(rt; take(&mut list, step, at, numbered(rank, number)), answer);
+        // by place, since a place is what the list is asked for
         for (i, expected) in numbers.iter().enumerate() {
             assert_eq!(rt; number_of(list.get(i)), *expected);
         }
