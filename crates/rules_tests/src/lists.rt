@@ -78,6 +78,7 @@ fn places(rt: HostRuntime) -> Result<(), Fail> {
         let mut list = RankedList::new(&mut space[0..lent]);
         assert_eq!(rt; list.room(), room);
         assert!(rt; list.best().is_none());
+        // a loop, since a closure of a chain is to change nothing
         let mut taken = 0usize;
         for number in 0..600u32 {
             if list.insert(numbered(u64::from(number % 7), number)).is_ok() {
@@ -144,6 +145,7 @@ fn order(rt: HostRuntime) {
     let mut list = RankedList::new(&mut space);
     for (step, at, rank, number, answer, numbers) in cases {
         assert_eq!(rt; take(&mut list, step, at, numbered(rank, number)), answer);
+        // by place, since a place is what the list is asked for
         for (i, expected) in numbers.iter().enumerate() {
             assert_eq!(rt; number_of(list.get(i)), *expected);
         }

@@ -52,7 +52,7 @@ fn letter_at(board: &AwayBoard<'_>, at: usize) -> u8 {
     board.bids().get(at).map_or(b' ', |x| x.exchange)
 }
 
-// Bids set on a board of three places, a price of 0 to clear: the exchange, the price, the answer, the letters afterwards, and the best.
+// Bids set on a board of three places, a price of 0 to clear, as the table has it: the exchange, the price, the answer, the letters afterwards, and the best.
 #[test]
 fn board_of_three(rt: HostRuntime) {
     let no_place = Err(Refusal::NoFreePlace);
@@ -90,9 +90,7 @@ fn board_of_three(rt: HostRuntime) {
             board.set_bid(exchange, price)
         };
         assert_eq!(rt; told, answer);
-        for (i, letter) in letters.iter().enumerate() {
-            assert_eq!(rt; letter_at(&board, i), *letter);
-        }
+        assert_eq!(rt; [0, 1, 2].map(|at| letter_at(&board, at)), letters);
         assert_eq!(rt; board.ask(), (best, None));
     }
     assert_eq!(rt; board.set_offer(b'A', 300), no_place);
@@ -134,4 +132,26 @@ fn piles(rt: HostRuntime) {
     assert_eq!(rt; shut.ask(), (None, Some(11_900)));
     shut.close();
     assert_eq!(rt; composite(None, None, &shut), (None, None));
+}
+
+// A pile that holds the board itself, whose prices are set and cleared through it.
+#[test]
+fn pile_by_value(rt: HostRuntime) {
+    let mut bids = [NO_BID; 2];
+    let mut offers = [NO_OFFER; 2];
+    let mut live = LivePair::new();
+    assert_eq!(rt; live.set(None, Some(11_900)), Ok(()));
+    let mut pile = Tighter {
+        one: CutOff::new(AwayBoard::new(&mut bids, &mut offers)),
+        other: live,
+    };
+    assert_eq!(rt; pile.one.below.set_bid(b'N', 11_500), Ok(()));
+    assert_eq!(rt; pile.one.below.set_offer(b'N', 12_000), Ok(()));
+    assert_eq!(rt; pile.ask(), (Some(11_500), Some(11_900)));
+    pile.other.clear();
+    assert_eq!(rt; pile.ask(), (Some(11_500), Some(12_000)));
+    assert_eq!(rt; pile.one.below.clear_offer(b'N'), Ok(()));
+    assert_eq!(rt; pile.ask(), (Some(11_500), None));
+    pile.one.close();
+    assert_eq!(rt; composite(None, Some(11_800), &pile), (None, Some(11_800)));
 }

@@ -78,6 +78,7 @@ fn answers<S: SharingRule>(rt: &impl Abort, rule: &S, ask: Ask) -> Result<(), Fa
     let mut space = [9; 514];
     let answer = rule.share(n, &claims[..count], &mut space[..places]);
     assert_eq!(rt; answer.is_ok(), fit.is_some());
+    // by place, since what is expected depends on it
     for (i, share) in space.iter().enumerate() {
         let expected = match fit {
             Some((full, rest)) if i < places => if i < full { size } else { rest },
