@@ -42,6 +42,7 @@ pub fn first_word(line: &[u8]) -> Option<(&[u8], &[u8])>
 }
 
 // The words of a line, from left to right. Words stand between blanks: spaces, tabs and carriage returns.
+// A type of its own, since no function hands out an unnamed iterator.
 #[derive(Debug, Drop)]
 pub struct Words<'a>(pub &'a [u8]);
 
