@@ -1,8 +1,8 @@
 -- Words taken from a line, and what is read on after them.
-use Rattle.std.proofs.Common.{◌≡◌, ℕ, List, [], ◌∷◌, IsErrAnd, MatchOption, Some, None, Ok, Err, Option, Result, ap, ◌∙◌, Bor}
+use Rattle.std.proofs.Common.{◌≡◌, ℕ, List, [], ◌∷◌, IsErrAnd, MatchOption, Some, None, Ok, Err, Option, Result, refl, ap, ◌∙◌, Bor}
 use Rattle.std.proofs.lemmas.Result.{err_from_is_err_and}
 use Rattle.std.specs.Option.{ok_or}
-use Rattle.entry.specs.Fields.{Complaint, complaint, Line, Reader, ◌then◌, first_of, word_in, fit, field_in}
+use Rattle.entry.specs.Fields.{Complaint, complaint, Line, Reader, ◌then◌, on_ok, first_of, word_in, fit, field_in}
 use Rattle.entry.specs.Shown.{complaint_of, taken, word_taken}
 use Rattle.entry.specs.declared.problem.Problem.{Problem}
 use Rattle.entry.specs.declared.problem.Trouble.{Trouble}
@@ -16,6 +16,11 @@ Next o old new = MatchOption o ((old ≡ []) × (new ≡ [])) (λ w. old ≡ w.n
 pub next_taken : (verb : Bor (List ℕ)) (old new : List (List ℕ)) (o : Option (Bor (List ℕ))) (r : Result (Bor (List ℕ)) Problem) → Next o old new → r ≡ ok_or o (record { word = verb; trouble = Missing }) → word_taken r (record { verb = verb.now; words = new }) ≡ first_of verb.now old
 next_taken verb old new None r h e = rw (e, h.0)
 next_taken verb old new (Some w) r h e = rw (e, h)
+
+-- one reader and then the next
+pub then_is : {A B : Type 0} (first : Reader A) (next : A → Reader B) (line : Line) → (first then next) line ≡ on_ok (first line) next
+unfolding ◌then◌
+then_is first next line = refl
 
 -- what the exit of a `?` returns
 taken_err : {A : Type 0} (r : Result A Problem) (p : Problem) (line : Line) → IsErrAnd r (λ y. y ≡ p) → taken r line ≡ Err (complaint_of p)

@@ -17,6 +17,7 @@ pub enum Entry {
 }
 
 // The fields of an update.
+#[tactic(auto, using(crate::proofs::Taking::then_is), unfolding(crate::specs::Entries::update_in))]
 fn update<'a>(fields: &mut Fields<'a>) -> Result<Entry, Problem<'a>>
     ensures { taken result (line_of fields.new) ≡ update_in (line_of fields.old) }
 {
@@ -38,6 +39,7 @@ fn update<'a>(fields: &mut Fields<'a>) -> Result<Entry, Problem<'a>>
 }
 
 // The fields of a summary.
+#[tactic(auto, using(crate::proofs::Taking::then_is), unfolding(crate::specs::Entries::summary_in))]
 fn summary<'a>(fields: &mut Fields<'a>) -> Result<Entry, Problem<'a>>
     ensures { taken result (line_of fields.new) ≡ summary_in (line_of fields.old) }
 {
@@ -53,6 +55,7 @@ fn summary<'a>(fields: &mut Fields<'a>) -> Result<Entry, Problem<'a>>
 }
 
 // A send has no fields.
+#[tactic(auto, using(crate::proofs::Taking::then_is), unfolding(crate::specs::Entries::send_in))]
 fn send<'a>(fields: &mut Fields<'a>) -> Result<Entry, Problem<'a>>
     ensures { taken result (line_of fields.new) ≡ send_in (line_of fields.old) }
 {
