@@ -130,7 +130,7 @@ module _ {X : Type 0} (b : X → X → Bool) (apart : (x y : X) → b x y ≡ tr
   not_beaten x y (z ∷ zs) (suc at) h e = not_beaten x y zs at (and_parts (not (b z y)) (list_all (λ w. not (b w y)) zs) h).1 e
 
   -- the level of what stands at a place ends where another such entry would go
-  pub level_is :
+  level_is :
       (at : ℕ) (x : X) (xs : List X) → in_rank b xs ≡ true → Some x ≡ slice_get xs at →
       (at < prefix_len (λ y. not (b x y)) xs) × (between at (prefix_len (λ y. not (b x y)) xs) xs ≡ level_at b at xs)
   level_is zero x [] h e = absurd cc
@@ -148,6 +148,14 @@ module _ {X : Type 0} (b : X → X → Bool) (apart : (x y : X) → b x y ≡ tr
       let r = level_is at x ys p.1 e in
       let m : prefix_len (λ z. not (b x z)) (y ∷ ys) - suc at ≡ k - at = omega (arith, n) in
       (omega (arith, n, r.0), ap (λ j. take j (drop at ys)) m ∙ r.1)
+
+  -- the same where the end is so known
+  pub level_there :
+      (at end : ℕ) (x : X) (xs : List X) → in_rank b xs ≡ true → Some x ≡ slice_get xs at → end ≡ prefix_len (λ y. not (b x y)) xs →
+      (at < end) × (between at end xs ≡ level_at b at xs)
+  level_there at end x xs h e p =
+      let r = level_is at x xs h e in
+      (omega (arith, p, r.0), (λ i. between at (p i) xs) ∙ r.1)
 
   pub level_whole : (at : ℕ) (xs : List X) → in_rank b xs ≡ true → level_at b at xs ≡ level_with b at xs
   level_whole zero [] h = refl

@@ -1,5 +1,6 @@
 -- What stands at a place of a list, and what a replacement there does.
-use Rattle.std.proofs.Common.{◌≡◌, ℕ, zero, suc, Bool, true, cond, List, [], ◌∷◌, set, is_some, Some, None, Option, sym, refl, ap, ◌∙◌}
+use Rattle.std.proofs.Common.{◌≡◌, ℕ, zero, suc, ◌<◌, Bool, true, cond, List, [], ◌∷◌, take, set, is_some, Some, None, Option, sym, refl, ap, ◌∙◌}
+use lib.Seq.{take-set-lt}
 use Rattle.std.specs.List.{remove, slice_get}
 use Rattle.std.proofs.lemmas.Bool.{cond-true}
 use Rattle.ranked.specs.Order.{level, if_level, replaceable, replaced}
@@ -11,10 +12,11 @@ removed_none [] (suc i) e = refl
 removed_none (x ∷ xs) zero e = absurd cc
 removed_none (x ∷ xs) (suc i) e = ap (λ ys. x ∷ ys) (removed_none xs i e)
 
-module _ {X : Type 0} (b : X → X → Bool) (xs : List X) (at : ℕ) (x y : X) where
-  level_there : Some y ≡ slice_get xs at → level b y x ≡ true → replaceable b xs at x ≡ Some y
+module _ {X : Type 0} (b : X → X → Bool) (n : ℕ) (s : List X) (at : ℕ) (x y : X) where
+  level_there : Some y ≡ slice_get (take n s) at → level b y x ≡ true → replaceable b (take n s) at x ≡ Some y
   level_there e t = sym (ap (if_level b x) e) ∙ cond-true (level b y x) (Some y) None t
 
   -- x takes the place of an entry that is level with it
-  pub replaced_there : Some y ≡ slice_get xs at → level b y x ≡ true → set xs at x ≡ replaced b xs at x
-  replaced_there e t = sym (ap (λ (o : Option X). cond (is_some o) (set xs at x) xs) (level_there e t))
+  pub replaced_there : at < n → Some y ≡ slice_get (take n s) at → level b y x ≡ true → take n (set s at x) ≡ replaced b (take n s) at x
+  replaced_there lt e t =
+      take-set-lt n s at x lt ∙ sym (ap (λ (o : Option X). cond (is_some o) (set (take n s) at x) (take n s)) (level_there e t))

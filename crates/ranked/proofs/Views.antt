@@ -13,5 +13,9 @@ module _ {X : Type 0} {r : _} (l : RankedList X r) where
   pub stands : (at : ℕ) (x : X) → Some x ≡ slice_get (entries l) at → at < count l
   stands at x e = omega (arith, slice_get_within (entries l) at x (sym e), length-entries)
 
+  -- also among the places
+  pub stands_in : (at : ℕ) (x : X) → Some x ≡ slice_get (entries l) at → at < length l.places.now
+  stands_in at x e = omega (arith, stands at x e, l.fits)
+
   pub stands_not : (at : ℕ) → None ≡ slice_get (entries l) at → count l ≤ at
   stands_not at e = ⊎_elim (λ p. absurd (let q = e ∙ p.2 in cc)) (λ p. omega (arith, p.0, length-entries)) (slice_get_cases (entries l) at).1

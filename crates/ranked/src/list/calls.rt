@@ -84,6 +84,7 @@ impl<'a, T: Rank + Copy> RankedList<'a, T> {
     }
 
     // Puts x behind all that are better or level; refused, and nothing is changed, where no place is free.
+    #[tactic(auto, using(crate::proofs::Moves::entered_front))]
     pub fn insert(&mut self, x: T) -> Result<(), Refusal>
         ensures answer { result ≡ (if free self.old then Ok tt else Err Refusal.NoFreePlace) }
         ensures after { entries self.new ≡ (if free self.old then entered T.better x (entries self.old) else entries self.old) }

@@ -1,23 +1,24 @@
-use Rattle.std.proofs.Common.{◌-◌, take, length, drop, sym, ap, ◌∙◌, arith}
+use Rattle.std.proofs.Common.{sym, ap, length, ◌∙◌, arith}
+use Rattle.std.specs.List.{between}
 use Rattle.ranked.specs.View.{entries}
-use Rattle.ranked.proofs.Levels.{level_is, level_none, level_whole}
+use Rattle.ranked.proofs.Levels.{level_there, level_none, level_whole}
 use Rattle.ranked.proofs.Views.{length-entries, stands_not}
 use Rattle.ranked.proofs.list.RankedList.level.Goals as goal
 
 pub slice_bounds-result-count : goal.slice_bounds-result-count
 slice_bounds-result-count g c =
     let l = c.args.self.now in
-    omega (arith, (level_is g.T.Rank.better g.met.T.Rank.apart g.met.T.Rank.carries g.met.T.Rank.levels c.args.at c.in-Some.first (entries l) l.order (sym c.in-Some.is ∙ c.get.ensures)).0, c.spot.ensures.there)
+    omega (arith, (level_there g.T.Rank.better g.met.T.Rank.apart g.met.T.Rank.carries g.met.T.Rank.levels c.args.at c.spot.result c.in-Some.first (entries l) l.order (sym c.in-Some.is ∙ c.get.ensures) c.spot.ensures.there).0)
 
 pub slice_bounds-result-start : goal.slice_bounds-result-start
 slice_bounds-result-start g c =
     let l = c.args.self.now in
-    omega (arith, (level_is g.T.Rank.better g.met.T.Rank.apart g.met.T.Rank.carries g.met.T.Rank.levels c.args.at c.in-Some.first (entries l) l.order (sym c.in-Some.is ∙ c.get.ensures)).0, c.spot.ensures.there, c.spot.ensures.within, ap length c.entries.ensures, length-entries l)
+    omega (arith, (level_there g.T.Rank.better g.met.T.Rank.apart g.met.T.Rank.carries g.met.T.Rank.levels c.args.at c.spot.result c.in-Some.first (entries l) l.order (sym c.in-Some.is ∙ c.get.ensures) c.spot.ensures.there).0, c.spot.ensures.within, ap length c.entries.ensures, length-entries l)
 
 pub returns-in-Some : goal.returns-in-Some
 returns-in-Some g c =
     let l = c.args.self.now in
-    let e = (λ i. take (c.spot.ensures.there i - c.args.at) (drop c.args.at (c.entries.ensures i))) ∙ (level_is g.T.Rank.better g.met.T.Rank.apart g.met.T.Rank.carries g.met.T.Rank.levels c.args.at c.in-Some.first (entries l) l.order (sym c.in-Some.is ∙ c.get.ensures)).1 in
+    let e = (λ i. between c.args.at c.spot.result (c.entries.ensures i)) ∙ (level_there g.T.Rank.better g.met.T.Rank.apart g.met.T.Rank.carries g.met.T.Rank.levels c.args.at c.spot.result c.in-Some.first (entries l) l.order (sym c.in-Some.is ∙ c.get.ensures) c.spot.ensures.there).1 in
     record {
       value = e;
       all_that_is_level = e ∙ level_whole g.T.Rank.better g.met.T.Rank.apart g.met.T.Rank.carries g.met.T.Rank.levels c.args.at (entries l) l.order;
