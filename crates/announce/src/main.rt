@@ -10,7 +10,7 @@ ghost use Rattle.writer.specs.Writing.{Holds, sent_after};
 
 use board::Word;
 use entry::{Entry, Problem, parse};
-use feed::Encode;
+use feed::{Encode, byte_at};
 use std::io::{BufRead, BufReader};
 use text::Hex;
 use writer::{MAX_FRAME, Refusal, add, frame, start};
@@ -51,8 +51,6 @@ impl From<anyhow::Error> for LineError<'_> {
 #[derive(Drop)]
 struct Sender {
     buffer: [u8; MAX_FRAME],
-    // messages in the frame in the making
-    pending: u64,
     messages: u64,
     frames: u64,
     bad: u64,
@@ -63,7 +61,6 @@ impl Sender {
     fn renew(&mut self)
         ensures { Holds [] self.new.buffer }
     {
-        self.pending = 0;
         // never refused: the buffer is a whole frame
         let _ = start(&mut self.buffer);
     }
@@ -72,7 +69,8 @@ impl Sender {
     fn send(&mut self, rt: &HostRuntime) -> anyhow::Result<()>
         ensures { OnOk result (Holds [] self.new.buffer) }
     {
-        if self.pending > 0 {
+        // the buffer's own header counts its messages
+        if byte_at(&self.buffer, 2) > 0 {
             println!(rt; "{}", Hex(frame(&self.buffer)))?;
             self.frames = self.frames.saturating_add(1);
         }
@@ -85,7 +83,6 @@ impl Sender {
         ensures { (ms : List Sent) → Holds ms self.old.buffer → Holds (sent_after (refused result) ms (M.Encode.sent message.now)) self.new.buffer }
     {
         add(&mut self.buffer, message)?;
-        self.pending = self.pending.saturating_add(1);
         self.messages = self.messages.saturating_add(1);
         Ok(())
     }
@@ -137,7 +134,6 @@ fn run(rt: &HostRuntime) -> anyhow::Result<()> {
     let input = BufReader::new(rt.alloc(), rt.stdin())?;
     let mut sender = Sender {
         buffer: [0; MAX_FRAME],
-        pending: 0,
         messages: 0,
         frames: 0,
         bad: 0,

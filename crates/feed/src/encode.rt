@@ -22,7 +22,8 @@ pub trait Encode {
     fn is_fit(&self) -> bool
         ensures { result ≡ fit (sent self.now) };
 
-    // Writes its bytes into `buffer` from `place` on; where they do not fit, nothing is written.
+    // Writes its bytes into `buffer` from `place` on; where they do not fit, nothing is written. A buffer cut at the place
+    // would be the caller's to cut.
     fn write_at(&self, buffer: &mut [u8], place: usize) -> Result<(), NoRoom>
         ensures answer { is_ok result ≡ nat_le (place + length (encoded (sent self.now))) (length buffer.old) }
         ensures after { buffer.new ≡ (if is_ok result then laid buffer.old place (encoded (sent self.now)) else buffer.old) }
@@ -45,7 +46,7 @@ impl<M: Layout> Encode for M {
     }
 }
 
-// Writes bytes into a buffer from a place on, where they fit.
+// Writes bytes into a buffer from a place on, where they fit. A buffer cut at the place would be the caller's to cut.
 pub fn put(buffer: &mut [u8], place: usize, m: &[u8]) -> Result<(), NoRoom>
     ensures answer { is_ok result ≡ nat_le (place + length m.now) (length buffer.old) }
     ensures after { buffer.new ≡ (if is_ok result then laid buffer.old place m.now else buffer.old) }

@@ -63,7 +63,7 @@ pub struct Fault {
 }
 
 impl Fault {
-    // The number by which the fault is published.
+    // The number by which the fault is published. By a match, since two reasons share one.
     pub fn number(&self) -> u8
         ensures { result ≡ number_of self.now.reason }
     {

@@ -25,6 +25,7 @@ pub struct Update {
 pub struct Summary {
     pub offset: u32,
     pub symbol: [u8; 8],
+    // a byte, as in an update
     pub auction: u8,
     pub price: u64,
     pub contracts: u32,

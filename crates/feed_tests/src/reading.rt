@@ -5,12 +5,13 @@ use reader::Reader;
 use std::process::Abort;
 use std::test::Fail;
 
-// The end of a frame: nothing, or a fault by its reason and place.
+// The end of a frame: nothing, or a fault by its reason and place, as the tables have it.
 type End = Option<(Reason, usize)>;
 
 // Reads a frame to its end, checks the number of its messages and its end, and that the end stays.
 fn reads_to(rt: &impl Abort, frame: &[u8], messages: usize, end: End) {
     let wanted = end.map(|(reason, place)| Fault { reason, place });
+    // in one pass, which counts and keeps the fault
     let mut said = 0usize;
     let mut met = None;
     for message in Reader::new(frame).messages() {

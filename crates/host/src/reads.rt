@@ -28,7 +28,7 @@ enum Kind {
     TooFew = 5,
 }
 
-// An answer: its kind and its numbers.
+// An answer: its kind and its numbers, 0 where it has none, since C knows no Option.
 #[derive(Clone, Copy)]
 struct Told {
     kind: Kind,
@@ -132,7 +132,7 @@ struct Call<'a> {
 }
 
 impl<'a> Call<'a> {
-    // The reader that the call goes on with; place 0 starts the frame.
+    // The reader that the call goes on with; place 0 starts the frame, since C knows no Option and no message begins there.
     fn reader(&self) -> Reader<'a>
         ensures { result ≡ reader_for self.now.frame self.now.place self.now.left }
     {

@@ -8,7 +8,7 @@ ghost use Rattle.host.specs.Writes.{answer_of, symbol_of, Added};
 use feed::{Summary, Update};
 use writer::Refusal;
 
-// 0, or the refusal's number.
+// 0, or the refusal's number, as C is told it.
 fn answer_of(outcome: Result<(), Refusal>) -> u32
     ensures { result ≡ answer_of (refused outcome) }
 {
@@ -17,7 +17,7 @@ fn answer_of(outcome: Result<(), Refusal>) -> u32
         .map_or(0, |refusal| u32::from(refusal.number()))
 }
 
-// The eight bytes of a symbol; eight zero bytes, which are unfit, where it has another length.
+// The eight bytes of a symbol; eight zero bytes where it has another length, so that the writer refuses it, in its order.
 fn symbol_of(symbol: &[u8]) -> [u8; 8]
     ensures { result ≡ symbol_of symbol.now }
 {

@@ -2,6 +2,7 @@
 ghost use Rattle.std.specs.Prelude.{◌≡◌};
 ghost use Rattle.market.specs.Refusals.{number_of};
 
+// An enum of its own: a call's type says by which numbers it may refuse.
 #[derive(Clone, Copy, Debug, PartialEq)]
 pub enum Refusal {
     // the exchange is not in the list, and the list has no free place

@@ -2,6 +2,7 @@
 ghost use Rattle.std.specs.Prelude.{◌≡◌};
 ghost use Rattle.ranked.specs.Refusals.{number_of};
 
+// An enum of its own: a call's type says by which numbers it may refuse.
 #[derive(Clone, Copy, Debug, PartialEq)]
 pub enum Refusal {
     // every place of the list holds an entry

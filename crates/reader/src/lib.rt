@@ -48,7 +48,7 @@ impl<'a> Reader<'a> {
         }
     }
 
-    // Where a reader stands: the place of the next message, and how many are still counted.
+    // Where a reader stands: the place of the next message, and how many are still counted; a pair, as a C caller keeps both.
     pub fn position(&self) -> (usize, u8)
         ensures { result ≡ (self.now.place, self.now.left) }
     {

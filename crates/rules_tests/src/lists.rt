@@ -40,12 +40,7 @@ impl Fill for Entry {
     }
 
     fn filled(&self, n: u32) -> Entry {
-        Entry {
-            rank: self.rank,
-            number: self.number,
-            size: self.size,
-            filled: n,
-        }
+        Entry { filled: n, ..*self }
     }
 }
 
@@ -97,7 +92,7 @@ fn places(rt: HostRuntime) -> Result<(), Fail> {
     Ok(())
 }
 
-// What a list is told.
+// What a list is told; every step has all columns beside it, as the tables have them.
 #[derive(Clone, Copy)]
 enum Step {
     Insert,

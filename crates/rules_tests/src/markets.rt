@@ -2,6 +2,7 @@
 use away::{AwayBid, AwayBoard, AwayOffer};
 use market::{CutOff, LivePair, NoMarket, OutsideMarket, Refusal, Tighter, composite};
 
+// Two constants, since a constant has one type.
 const NO_BID: AwayBid = AwayBid {
     exchange: 0,
     price: 0,
@@ -47,7 +48,7 @@ fn prices(rt: HostRuntime) {
     assert_eq!(rt; Refusal::Unfit.number(), 41);
 }
 
-// The letters of a board's bids, a blank where there is none.
+// The letters of a board's bids, a blank where there is none, as the table has it.
 fn letter_at(board: &AwayBoard<'_>, at: usize) -> u8 {
     board.bids().get(at).map_or(b' ', |x| x.exchange)
 }

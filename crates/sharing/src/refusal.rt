@@ -2,6 +2,7 @@
 ghost use Rattle.std.specs.Prelude.{◌≡◌};
 ghost use Rattle.sharing.specs.Asking.{number_of};
 
+// An enum of its own: a call's type says by which numbers it may refuse.
 #[derive(Clone, Copy, Debug, PartialEq)]
 pub enum Refusal {
     // over 512 claims, places that differ in number from the claims, or a size over 100,000

@@ -2,7 +2,7 @@
 ghost use Rattle.std.specs.Prelude.{◌≡◌};
 ghost use Rattle.text.specs.Number.{whole_of, appended_to};
 
-// `n` with one more decimal digit behind it.
+// `n` with one more decimal digit behind it. The library's parsing wants text, and takes a sign.
 fn appended(n: u64, b: u8) -> Option<u64>
     ensures { result ≡ appended_to n b }
 {

@@ -2,6 +2,7 @@
 ghost use Rattle.std.specs.Prelude.{◌≡◌};
 ghost use Rattle.width.specs.Refusals.{number_of};
 
+// An enum of its own: a call's type says by which numbers it may refuse.
 #[derive(Clone, Copy, Debug, PartialEq)]
 pub enum Refusal {
     // a width over the widest, or tenths that are not 1 to 100

@@ -13,7 +13,7 @@ use feed::{Encode, byte_at, put};
 // The longest frame.
 pub const MAX_FRAME: usize = 1500;
 
-// The length that the header at the start of a buffer says.
+// The length that the header at the start of a buffer says. It is kept nowhere else, as C lends the buffer alone.
 fn length_in(buffer: &[u8]) -> usize
     ensures { result ≡ length_in buffer.now }
 {

@@ -5,6 +5,7 @@ ghost use Rattle.writer.specs.declared.refusal.Refusal.TheVariants.{NoRoom};
 
 use feed::NoRoom;
 
+// An enum of its own: a call's type says by which numbers it may refuse.
 #[derive(Clone, Copy, Debug, PartialEq)]
 pub enum Refusal {
     // past the buffer, or past the longest frame

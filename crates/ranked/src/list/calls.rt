@@ -26,6 +26,7 @@ fn close_up<T: Copy>(entries: &mut [T], at: usize)
     entries[at..].rotate_left(1);
 }
 
+// Whether neither is better; they need not be equal.
 fn are_level<T: Rank>(x: &T, y: &T) -> bool
     ensures { result ≡ level T.better x.now y.now }
 {
