@@ -1,7 +1,6 @@
 -- Lists of away prices: where an exchange stands, and what taking it out leaves.
-use Rattle.std.proofs.Common.{◌≡◌, ℕ, suc, ◌+◌, ◌-◌, ◌<◌, ◌≤◌, Bool, true, false, cond, not, ◌||◌, ◌==◌, eqb, ltb, List, [], ◌∷◌, length, is_some, Some, None, sym, refl, ap, ◌∙◌, inl, inr, one-add, arith}
-use Rattle.std.specs.List.{remove, position, position_or_len, prefix_len}
-use Rattle.std.proofs.lemmas.List.Recursion.{is_position_or_len}
+use Rattle.std.proofs.Common.{◌≡◌, ℕ, suc, ◌+◌, ◌-◌, ◌<◌, ◌≤◌, Bool, true, false, cond, not, ◌||◌, ◌==◌, eqb, ltb, List, [], ◌∷◌, length, is_some, Some, None, Option, sym, refl, ap, ◌∙◌, inl, inr, one-add, arith}
+use Rattle.std.specs.List.{remove, position, prefix_len}
 use Rattle.std.proofs.lemmas.Bool.{cases_lt, lt-ltb, le-ltb, ltb-true, or_parts, cond-false}
 use Rattle.away.specs.Board.{quoted, without}
 
@@ -11,10 +10,6 @@ ltb_suc m n =
       | inl h ↦ lt-ltb (suc m) (suc n) (omega arith) ∙ sym (lt-ltb m n h)
       | inr h ↦ le-ltb (suc m) (suc n) (omega arith) ∙ sym (le-ltb m n h)
     ]
-
-turned : (t : Bool) (n : ℕ) → cond (not t) n 0 ≡ cond t 0 n
-turned true n = refl
-turned false n = refl
 
 tests_some : (t : Bool) (n : ℕ) → is_some (cond t (Some n) None) ≡ t
 tests_some true n = refl
@@ -27,9 +22,6 @@ some_of false n at e = absurd cc
 module _ {X : Type 0} (exchange : X → ℕ) (e : ℕ) where
   abbrev place : List X → ℕ
   place xs = prefix_len (λ x. not (exchange x == e)) xs
-
-  place_is : (xs : List X) → place xs ≡ position_or_len (λ x. exchange x == e) xs
-  place_is xs = is_position_or_len place (λ x. exchange x == e) refl (λ x ys. turned (eqb (exchange x) e) (1 + place ys)) xs
 
   removed_is : (xs : List X) → remove xs (place xs) ≡ without exchange e xs
   removed_is [] = refl
@@ -48,14 +40,21 @@ module _ {X : Type 0} (exchange : X → ℕ) (e : ℕ) where
       by false h = ap (λ n. ltb n (suc (length xs))) (one-add (place xs)) ∙ ltb_suc (place xs) (length xs) ∙ h
 
   -- an exchange is found where it has a price
-  pub found : (xs : List X) → is_some (position (λ x. exchange x == e) xs) ≡ quoted exchange e xs
-  found xs = tests_some (ltb (position_or_len (λ x. exchange x == e) xs) (length xs)) (position_or_len (λ x. exchange x == e) xs) ∙ ap (λ k. ltb k (length xs)) (sym (place_is xs)) ∙ place_within xs
+  found : (xs : List X) → is_some (position (λ x. exchange x == e) xs) ≡ quoted exchange e xs
+  found xs = tests_some (ltb (place xs) (length xs)) (place xs) ∙ place_within xs
+
+  pub found_by : (o : Option ℕ) (xs : List X) → o ≡ position (λ x. exchange x == e) xs → quoted exchange e xs ≡ is_some o
+  found_by o xs h = sym (found xs) ∙ sym (ap is_some h)
 
   -- its price is taken out at that place
   pub found_at : (xs : List X) (at : ℕ) → Some at ≡ position (λ x. exchange x == e) xs → (at < length xs) × (quoted exchange e xs ≡ true) × (remove xs at ≡ without exchange e xs)
   found_at xs at h =
-      let s = some_of (ltb (position_or_len (λ x. exchange x == e) xs) (length xs)) (position_or_len (λ x. exchange x == e) xs) at h in
-      (omega (arith, ltb-true (position_or_len (λ x. exchange x == e) xs) (length xs) s.0, s.1), sym (found xs) ∙ sym (ap is_some h), ap (remove xs) (s.1 ∙ sym (place_is xs)) ∙ removed_is xs)
+      let s = some_of (ltb (place xs) (length xs)) (place xs) at h in
+      (omega (arith, ltb-true (place xs) (length xs) s.0, s.1), found_by (Some at) xs h, ap (remove xs) s.1 ∙ removed_is xs)
+
+  -- so that what is left there is the list without it
+  pub taken_out_at : (xs new : List X) (at : ℕ) → new ≡ remove xs at → Some at ≡ position (λ x. exchange x == e) xs → new ≡ without exchange e xs
+  taken_out_at xs new at n h = n ∙ (found_at xs at h).2
 
   unquoted_without : (xs : List X) → quoted exchange e xs ≡ false → without exchange e xs ≡ xs
   unquoted_without [] h = refl
@@ -65,7 +64,7 @@ module _ {X : Type 0} (exchange : X → ℕ) (e : ℕ) where
 
   -- where it has none, there is nothing to take out
   pub found_none : (xs : List X) → None ≡ position (λ x. exchange x == e) xs → (quoted exchange e xs ≡ false) × (without exchange e xs ≡ xs)
-  found_none xs h = let q : quoted exchange e xs ≡ false = sym (found xs) ∙ sym (ap is_some h) in (q, unquoted_without xs q)
+  found_none xs h = let q = found_by None xs h in (q, unquoted_without xs q)
 
 -- a list that lost an entry has a free place
 pub place_after : (at n room m : ℕ) → at < n → n ≤ room → m ≡ cond (ltb at n) (n - 1) n → ltb m room ≡ true

@@ -138,21 +138,22 @@ pub fit_without : {X : Type 0} (exchange price : X → ℕ) (e : ℕ) (xs : List
 fit_without exchange price e xs f = pass_without exchange (λ y. is_exchange (exchange y) && is_price (price y)) e xs f
 
 module _ {X : Type 0} (b : X → X → Bool) (exchange price : X → ℕ) where
-  -- a price enters where a place is free
-  pub posted_in :
-      (free : Bool) (e : ℕ) (x : X) (old between new : List X) → free ≡ true → between ≡ without exchange e old → new ≡ cond free (entered b x between) between →
-      new ≡ posted b exchange e x old
-  posted_in free e x old between new t m n = n ∙ cond-true free (entered b x between) between t ∙ ap (entered b x) m
+  module _ (free : Bool) (e : ℕ) (x : X) (old between new : List X) (ex : exchange x ≡ e) (t : free ≡ true) (out : between ≡ without exchange e old) (into : new ≡ cond free (entered b x between) between) where
+    -- a price enters where a place is free
+    posted_in : new ≡ posted b exchange e x old
+    posted_in = into ∙ cond-true free (entered b x between) between t ∙ ap (entered b x) out
 
-  -- what is posted leaves each exchange once
-  pub posted_once : (e : ℕ) (x : X) (xs : List X) → exchange x ≡ e → once exchange xs ≡ true → once exchange (posted b exchange e x xs) ≡ true
-  posted_once e x xs ex o =
-      once-entered exchange b x (without exchange e xs) (subst (λ k. quoted exchange k (without exchange e xs) ≡ false) (sym ex) (taken_out exchange e xs o)) (once-without exchange e xs o)
+    -- what is posted leaves each exchange once
+    pub posted_once : once exchange old ≡ true → once exchange new ≡ true
+    posted_once o =
+        ap (once exchange) posted_in
+        ∙ once-entered exchange b x (without exchange e old) (subst (λ k. quoted exchange k (without exchange e old) ≡ false) (sym ex) (taken_out exchange e old o)) (once-without exchange e old o)
 
-  -- and all fit
-  pub posted_fit : (e : ℕ) (x : X) (xs : List X) → (is_exchange (exchange x) && is_price (price x)) ≡ true → fit_quotes exchange price xs ≡ true → fit_quotes exchange price (posted b exchange e x xs) ≡ true
-  posted_fit e x xs fit f =
-      pass_entered b (λ y. is_exchange (exchange y) && is_price (price y)) x (without exchange e xs) fit (fit_without exchange price e xs f)
+    -- and all fit
+    pub posted_fit : (is_exchange (exchange x) && is_price (price x)) ≡ true → fit_quotes exchange price old ≡ true → fit_quotes exchange price new ≡ true
+    posted_fit fit f =
+        ap (fit_quotes exchange price) posted_in
+        ∙ pass_entered b (λ y. is_exchange (exchange y) && is_price (price y)) x (without exchange e old) fit (fit_without exchange price e old f)
 
   -- what is posted moves the price of its exchange alone
   pub posted_moves :

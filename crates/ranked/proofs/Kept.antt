@@ -1,5 +1,5 @@
 -- The order of rank is kept by an entry and by a removal.
-use Rattle.std.proofs.Common.{◌≡◌, ℕ, zero, suc, Bool, true, false, cond, not, List, [], ◌∷◌, drop, set, is_some, Some, None, Option, sym, refl, ap, ◌∙◌, ⊎_elim}
+use Rattle.std.proofs.Common.{◌≡◌, ℕ, zero, suc, Bool, true, false, cond, not, List, [], ◌∷◌, set, is_some, Some, None, Option, sym, refl, ap, ◌∙◌, ⊎_elim}
 use Rattle.std.specs.List.{list_all, remove, slice_get}
 use Rattle.std.proofs.lemmas.Bool.{cond-true, cond-false, cases_Bool, and_parts, and_from, not-true, not_from_false, both_ways}
 use Rattle.ranked.specs.Order.{level, if_level, entered, in_rank, replaced}
@@ -58,12 +58,6 @@ removed_in_rank b (x ∷ xs) zero h = (and_parts (list_all (λ z. not (b z x)) x
 removed_in_rank b (x ∷ xs) (suc i) h =
     let a = and_parts (list_all (λ z. not (b z x)) xs) (in_rank b xs) h in
     and_from (list_all (λ z. not (b z x)) (remove xs i)) (in_rank b (remove xs i)) (pass_removed (λ z. not (b z x)) xs i a.0) (removed_in_rank b xs i a.1)
-
--- what stands from a place on
-pub dropped_in_rank : {X : Type 0} (b : X → X → Bool) (xs : List X) (i : ℕ) → in_rank b xs ≡ true → in_rank b (drop i xs) ≡ true
-dropped_in_rank b xs zero h = h
-dropped_in_rank b [] (suc i) h = refl
-dropped_in_rank b (x ∷ xs) (suc i) h = dropped_in_rank b xs i (and_parts (list_all (λ z. not (b z x)) xs) (in_rank b xs) h).1
 
 pub pass_set :
     {X : Type 0} (p : X → Bool) (x y : X) → p y ≡ p x → (xs : List X) (i : ℕ) → slice_get xs i ≡ Some x → list_all p xs ≡ true → list_all p (set xs i y) ≡ true

@@ -11,7 +11,7 @@ ghost use Rattle.away.specs.View.{bids_of, offers_of, bid_room, offer_room, bid_
 use super::AwayBoard;
 use crate::prices::{AwayBid, AwayOffer, AwayPrice};
 use crate::quotes::PriceList;
-use market::{OutsideMarket, Refusal};
+use market::{OutsideMarket, Prices, Refusal};
 
 // Two calls a side, since with one each caller would pass the side. What they do is written once, in `PriceList`.
 impl<'a> AwayBoard<'a> {
@@ -96,7 +96,7 @@ impl<'a> OutsideMarket for AwayBoard<'a> {
 
     ghost fit = { λ b. fit_board (bids_of b) (offers_of b) b.bids.fit b.offers.fit };
 
-    fn ask(&self) -> (Option<u64>, Option<u64>) {
+    fn ask(&self) -> Prices {
         (self.bids.best_price(), self.offers.best_price())
     }
 }

@@ -50,6 +50,7 @@ impl<'a, T: Quote + Copy> PriceList<'a, T> {
     }
 
     // Whether there is a place for an exchange's price: its own, or a free one.
+    #[tactic(auto, using(crate::proofs::Finding::found_by))]
     fn has_place(&self, letter: u8) -> bool
         ensures { result ≡ place_in T.exchange letter self.now.list }
     {
@@ -57,6 +58,7 @@ impl<'a, T: Quote + Copy> PriceList<'a, T> {
     }
 
     // Takes an exchange's price out, where there is one.
+    #[tactic(auto, using(crate::proofs::Finding::found_by))]
     fn take_out(&mut self, letter: u8)
         ensures after { entries self.new.list ≡ without T.exchange letter (entries self.old.list) }
         ensures place { free self.new.list ≡ place_in T.exchange letter self.old.list }

@@ -1,37 +1,29 @@
-use Rattle.std.proofs.Common.{◌≡◌, ◌&&◌, true, ◌||◌, refl, ap, ◌∙◌, rules}
+use Rattle.std.proofs.Common.{◌≡◌, sym, ◌&&◌, true, ◌||◌, rules}
 use Rattle.ranked.specs.View.{entries, free}
-use Rattle.away.specs.Board.{is_exchange, quoted, without, once, fit_quotes, posted, post_refusal}
+use Rattle.away.specs.Board.{is_exchange, quoted, posted, post_refusal}
 use Rattle.market.specs.Market.{is_price}
 use Rattle.market.specs.Refusals.{unless}
-use Rattle.away.proofs.Tidying.{posted_in, posted_once, posted_fit, posted_moves}
+use Rattle.away.proofs.Tidying.{posted_once, posted_fit, posted_moves}
 use Rattle.away.proofs.quotes.PriceList.post.Goals as goal
 
 pub invariant_of-self-clause-once : goal.invariant_of-self-clause-once
 invariant_of-self-clause-once g c =
-    let b = g.T.Rank.better in
     let ex = g.T.Quote.exchange in
-    let price = g.T.Quote.price in
-    let x = c.args.quote in
-    let old = entries c.args.self.now.list in
+    let l = c.args.self.now in
     let mid = c.take_out.new.self.list in
-    let out : entries mid ≡ without ex (ex x) old = search rules in
     let place : free mid ≡ true = search rules in
-    let after = posted_in b ex price (free mid) (ex x) x old (entries mid) (entries c.insert.new.self) place out c.insert.ensures.after in
-    ap (once ex) after ∙ posted_once b ex price (ex x) x old refl c.args.self.now.once
+    posted_once g.T.Rank.better ex g.T.Quote.price (free mid) c.exchange-letter.result c.args.quote (entries l.list) (entries mid) (entries c.insert.new.self) (sym c.exchange-letter.ensures) place c.take_out.ensures.after c.insert.ensures.after l.once
 
 pub invariant_of-self-clause-fit : goal.invariant_of-self-clause-fit
 invariant_of-self-clause-fit g c =
-    let b = g.T.Rank.better in
     let ex = g.T.Quote.exchange in
     let price = g.T.Quote.price in
     let x = c.args.quote in
-    let old = entries c.args.self.now.list in
+    let l = c.args.self.now in
     let mid = c.take_out.new.self.list in
-    let out : entries mid ≡ without ex (ex x) old = search rules in
     let place : free mid ≡ true = search rules in
-    let after = posted_in b ex price (free mid) (ex x) x old (entries mid) (entries c.insert.new.self) place out c.insert.ensures.after in
     let fit : (is_exchange (ex x) && is_price (price x)) ≡ true = search rules in
-    ap (fit_quotes ex price) after ∙ posted_fit b ex price (ex x) x old fit c.args.self.now.fit
+    posted_fit g.T.Rank.better ex price (free mid) c.exchange-letter.result x (entries l.list) (entries mid) (entries c.insert.new.self) (sym c.exchange-letter.ensures) place c.take_out.ensures.after c.insert.ensures.after fit l.fit
 
 pub returns-clause-moves : goal.returns-clause-moves
 returns-clause-moves g c =

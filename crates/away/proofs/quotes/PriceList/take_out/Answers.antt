@@ -2,7 +2,7 @@ use Rattle.std.proofs.Common.{sym, ap, ◌∙◌, ◌||◌, arith}
 use Rattle.ranked.specs.View.{entries, count, room, free}
 use Rattle.ranked.proofs.Views.{length-entries}
 use Rattle.away.specs.Board.{once, fit_quotes}
-use Rattle.away.proofs.Finding.{found_at, found_none, place_after}
+use Rattle.away.proofs.Finding.{found_at, found_none, taken_out_at, place_after}
 use Rattle.away.proofs.Tidying.{once-without, fit_without}
 use Rattle.away.proofs.quotes.PriceList.take_out.Goals as goal
 
@@ -10,21 +10,19 @@ pub invariant_of-self-clause-once : goal.invariant_of-self-clause-once
 invariant_of-self-clause-once g c =
     let ex = g.T.Quote.exchange in
     let l = c.args.self.now.list in
-    let f = found_at ex c.args.letter (entries l) c.in-Some.at (sym c.in-Some.is ∙ c.place_of.ensures) in
-    ap (once ex) (c.remove.ensures.after ∙ f.2) ∙ once-without ex c.args.letter (entries l) c.args.self.now.once
+    ap (once ex) (taken_out_at ex c.args.letter (entries l) (entries c.remove.new.self) c.in-Some.at c.remove.ensures.after (sym c.in-Some.is ∙ c.place_of.ensures)) ∙ once-without ex c.args.letter (entries l) c.args.self.now.once
 
 pub invariant_of-self-clause-fit : goal.invariant_of-self-clause-fit
 invariant_of-self-clause-fit g c =
     let ex = g.T.Quote.exchange in
     let price = g.T.Quote.price in
     let l = c.args.self.now.list in
-    let f = found_at ex c.args.letter (entries l) c.in-Some.at (sym c.in-Some.is ∙ c.place_of.ensures) in
-    ap (fit_quotes ex price) (c.remove.ensures.after ∙ f.2) ∙ fit_without ex price c.args.letter (entries l) c.args.self.now.fit
+    ap (fit_quotes ex price) (taken_out_at ex c.args.letter (entries l) (entries c.remove.new.self) c.in-Some.at c.remove.ensures.after (sym c.in-Some.is ∙ c.place_of.ensures)) ∙ fit_without ex price c.args.letter (entries l) c.args.self.now.fit
 
 pub returns-in-Some-clause-after : goal.returns-in-Some-clause-after
 returns-in-Some-clause-after g c =
-    let f = found_at g.T.Quote.exchange c.args.letter (entries c.args.self.now.list) c.in-Some.at (sym c.in-Some.is ∙ c.place_of.ensures) in
-    c.remove.ensures.after ∙ f.2
+    let l = c.args.self.now.list in
+    taken_out_at g.T.Quote.exchange c.args.letter (entries l) (entries c.remove.new.self) c.in-Some.at c.remove.ensures.after (sym c.in-Some.is ∙ c.place_of.ensures)
 
 pub returns-in-Some-clause-place : goal.returns-in-Some-clause-place
 returns-in-Some-clause-place g c =
@@ -36,8 +34,3 @@ returns-in-Some-clause-place g c =
 
 pub returns-in_default-clause-after : goal.returns-in_default-clause-after
 returns-in_default-clause-after g c = sym (found_none g.T.Quote.exchange c.args.letter (entries c.args.self.now.list) (sym c.in_default.is ∙ c.place_of.ensures)).1
-
-pub returns-in_default-clause-place : goal.returns-in_default-clause-place
-returns-in_default-clause-place g c =
-    let l = c.args.self.now.list in
-    sym (ap (λ q. q || free l) (found_none g.T.Quote.exchange c.args.letter (entries l) (sym c.in_default.is ∙ c.place_of.ensures)).0)
