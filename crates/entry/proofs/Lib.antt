@@ -1,3 +1,2 @@
 pub mod Spelling
-pub mod Starting
 pub mod Taking

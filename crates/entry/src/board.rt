@@ -64,6 +64,7 @@ fn send<'a>(fields: &mut Fields<'a>) -> Result<Entry, Problem<'a>>
 }
 
 // What a line says, up to a `#`: a verb and its fields, or nothing. The first problem from the left counts.
+#[tactic(auto, using(crate::proofs::Spelling::is_send, crate::proofs::Spelling::is_update, crate::proofs::Spelling::is_summary), unfolding(crate::specs::Entries::entry_of))]
 pub fn parse(line: &[u8]) -> Result<Option<Entry>, Problem<'_>>
     ensures { answered result ≡ entry_of line.now }
 {

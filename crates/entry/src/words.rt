@@ -16,6 +16,7 @@ pub struct Fields<'a> {
 
 impl<'a> Fields<'a> {
     // The next word; a line that lacks it is a problem of its verb.
+    #[tactic(auto, unfolding(crate::specs::Fields::word_in))]
     fn word(&mut self) -> Result<&'a [u8], Problem<'a>>
         ensures { word_taken result (line_of self.new) ≡ word_in (line_of self.old) }
     {
@@ -27,6 +28,7 @@ impl<'a> Fields<'a> {
 
     // The next word as the value that it writes; a word that writes none is a problem.
     // The kinds of fields have names below, so that no entry can pair a reading with another's trouble.
+    #[tactic(auto, using(crate::proofs::Taking::then_is))]
     fn field<T, F: FnOnce(&'a [u8]) -> Option<T> + Drop>(
         &mut self,
         value_of: F,
@@ -40,6 +42,7 @@ impl<'a> Fields<'a> {
     }
 
     // The next word as a symbol.
+    #[tactic(auto, unfolding(crate::specs::Fields::symbol_in))]
     pub fn symbol(&mut self) -> Result<[u8; 8], Problem<'a>>
         ensures { taken result (line_of self.new) ≡ symbol_in (line_of self.old) }
     {
@@ -48,6 +51,7 @@ impl<'a> Fields<'a> {
     }
 
     // The next word as an auction letter.
+    #[tactic(auto, unfolding(crate::specs::Fields::letter_in))]
     pub fn letter(&mut self) -> Result<u8, Problem<'a>>
         ensures { taken result (line_of self.new) ≡ letter_in (line_of self.old) }
     {
@@ -55,6 +59,7 @@ impl<'a> Fields<'a> {
     }
 
     // The next word as a price, in ten-thousandths of a dollar.
+    #[tactic(auto, unfolding(crate::specs::Fields::price_in))]
     pub fn price(&mut self) -> Result<u64, Problem<'a>>
         ensures { taken result (line_of self.new) ≡ price_in (line_of self.old) }
     {
@@ -63,6 +68,7 @@ impl<'a> Fields<'a> {
     }
 
     // The next word as a whole number of 32 bits.
+    #[tactic(auto, unfolding(crate::specs::Fields::number_in))]
     pub fn number(&mut self) -> Result<u32, Problem<'a>>
         ensures { taken result (line_of self.new) ≡ number_in (line_of self.old) }
     {
@@ -70,6 +76,7 @@ impl<'a> Fields<'a> {
     }
 
     // The next word as a condition.
+    #[tactic(auto, unfolding(crate::specs::Fields::condition_in))]
     pub fn condition(&mut self) -> Result<u8, Problem<'a>>
         ensures { taken result (line_of self.new) ≡ condition_in (line_of self.old) }
     {
@@ -77,6 +84,7 @@ impl<'a> Fields<'a> {
     }
 
     // Whether no word is left; one that is left is a problem.
+    #[tactic(auto, unfolding(crate::specs::Fields::end_in))]
     pub fn end(&mut self) -> Result<(), Problem<'a>>
         ensures { taken result (line_of self.new) ≡ end_in (line_of self.old) }
     {
