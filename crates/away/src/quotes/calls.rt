@@ -42,7 +42,7 @@ impl<'a, T: Quote + Copy> PriceList<'a, T> {
         self.list.best().map(|best| best.price())
     }
 
-    // Where an exchange's price stands.
+    // Where an exchange's price stands: searched for, since a map would take memory of its own.
     fn place_of(&self, letter: u8) -> Option<usize>
         ensures { result ≡ position (λ x. T.exchange x == letter) (entries self.now.list) }
     {

@@ -4,9 +4,6 @@ use Rattle.text.specs.Hex.{is_hex_digit, is_hex_pairs, hex_bytes}
 use Rattle.text.proofs.Pairing.{byte_of, chunk_digits, chunk_bytes, bytes_more, digit_value}
 use Rattle.text.proofs.hex.push_word.Goals as goal
 
-pub loop-high-init : goal.loop-high-init
-loop-high-init c = search rules
-
 pub unwrap-requires : goal.unwrap-requires
 unwrap-requires c =
     let is : is_hex_pairs c.args.word.now ≡ true = search rules in
@@ -20,9 +17,6 @@ unwrap-requires-in-loop-high c =
     let low = chunk_digits (length c.args.word.now / 2) c.args.word.now c.loop-high.high-index is refl (omega (arith, c.loop-high-test.true, c.as_chunks.ensures.front_len)) in
     let digit : is_hex_digit (get_or (get_or c.as_chunks.result.0.now c.loop-high.high-index []) 1 0) ≡ true = ap (λ l. is_hex_digit (get_or (get_or l c.loop-high.high-index []) 1 0)) c.as_chunks.ensures.front ∙ low.1 in
     search rules
-
-pub push_reserved-requires : goal.push_reserved-requires
-push_reserved-requires c = omega (arith, c.loop-high.invariant.1, c.loop-high-test.true)
 
 pub loop-high-preserved : goal.loop-high-preserved
 loop-high-preserved c =
