@@ -9,9 +9,6 @@ use Rattle.ranked.proofs.list.RankedList.replace.Goals as goal
 pub offset_bounds-self-at : goal.offset_bounds-self-at
 offset_bounds-self-at g c = let lt = stands_in c.args.self.now c.args.at c.in_ok-old.old c.in_ok-old.ensures in search rules
 
-pub bounds-self-at : goal.bounds-self-at
-bounds-self-at g c = stands_in c.args.self.now c.args.at c.in_ok-old.old c.in_ok-old.ensures
-
 pub invariant_of-self-clause-order : goal.invariant_of-self-clause-order
 invariant_of-self-clause-order g c =
     let b = g.T.Rank.better in
