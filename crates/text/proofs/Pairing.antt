@@ -1,12 +1,11 @@
 -- Pairs of hex digits, one pair at a time.
-use Rattle.std.proofs.Common.{◌≡◌, ℕ, zero, suc, ◌+◌, ◌*◌, ◌/◌, ◌%◌, ◌<◌, Bool, true, false, cond, ◌&&◌, eqb, Some, None, List, [], ◌∷◌, ◌++◌, length, map, get_or, take, sym, refl, ap, ◌∙◌, arith}
+use Rattle.std.proofs.Common.{◌≡◌, ℕ, zero, suc, ◌+◌, ◌*◌, ◌/◌, ◌%◌, ◌<◌, Bool, true, false, ◌&&◌, eqb, List, [], ◌∷◌, length, map, get_or, sym, refl, ap, ◌∙◌, arith}
 use Rattle.std.proofs.lemmas.Bool.{and_parts, and_right, ne_eqb}
-use Rattle.std.proofs.lemmas.List.{take_more}
 use Rattle.std.specs.Simd.{first_chunks}
 use Rattle.std.proofs.lemmas.Bool.Decides.{nat_tests}
 use Rattle.std.specs.Char.{is_ascii_hexdigit}
 use Rattle.std.specs.List.{list_all}
-use Rattle.text.specs.Hex.{is_hex_digit, hex_digit, hex_digit_of, is_hex_pairs, hex_bytes}
+use Rattle.text.specs.Hex.{is_hex_digit, hex_digit, is_hex_pairs, hex_bytes}
 
 pub hexdigit_is : (b : ℕ) → is_ascii_hexdigit b ≡ is_hex_digit b
 hexdigit_is b = grind (arith, nat_tests)
@@ -33,13 +32,6 @@ pairs_odd xs h = ne_eqb (length xs % 2) 0 h ∙ sym (odd xs h)
         let rest : length cs % 2 ≡ 0 → ⊥ = λ e. k (omega (arith, e)) in
         rw (odd cs rest) (and_right (is_hex_digit a && is_hex_digit b) false refl)
 
-pub digit_value : (b v : ℕ) → hex_digit_of b ≡ Some v → v ≡ hex_digit b
-digit_value b v e = go (is_hex_digit b) e
-  where
-    go : (t : Bool) → cond t (Some (hex_digit b)) None ≡ Some v → v ≡ hex_digit b
-    go true f = cc
-    go false f = absurd cc
-
 -- the byte that a pair writes
 abbrev pub byte_of : List ℕ → ℕ
 byte_of p = hex_digit (get_or p 0 0) * 16 + hex_digit (get_or p 1 0)
@@ -58,10 +50,3 @@ chunk_bytes zero (a ∷ (b ∷ cs)) h n = absurd (omega (arith, n))
 chunk_bytes (suc k) [] h n = absurd (omega (arith, n))
 chunk_bytes (suc k) (a ∷ []) h n = absurd (omega (arith, n))
 chunk_bytes (suc k) (a ∷ (b ∷ cs)) h n = ap (λ (l : List ℕ). (hex_digit a * 16 + hex_digit b) ∷ l) (chunk_bytes k cs (and_parts (is_hex_digit a && is_hex_digit b) (is_hex_pairs cs) h).1 (omega (arith, n)))
-
-map_push : (xs : List (List ℕ)) (p : List ℕ) → map byte_of (xs ++ (p ∷ [])) ≡ map byte_of xs ++ (byte_of p ∷ [])
-map_push [] p = refl
-map_push (x ∷ xs) p = ap (λ (l : List ℕ). byte_of x ∷ l) (map_push xs p)
-
-pub bytes_more : (ps : List (List ℕ)) (i : ℕ) → i < length ps → map byte_of (take (i + 1) ps) ≡ map byte_of (take i ps) ++ (byte_of (get_or ps i []) ∷ [])
-bytes_more ps i h = ap (λ (l : List (List ℕ)). map byte_of l) (take_more ps i [] h) ∙ map_push (take i ps) (get_or ps i [])
