@@ -1,5 +1,6 @@
 // Bytes in hexadecimal digits.
-ghost use Rattle.std.specs.Prelude.{◌≡◌, [], ◌++◌, is_ok, if◌then◌else◌, Some, string_bytes, MatchResult};
+ghost use Rattle.std.specs.Prelude.{◌≡◌, ◌<◌, [], ◌∷◌, ◌++◌, is_ok, if◌then◌else◌, Some, string_bytes, MatchResult};
+ghost use Rattle.std.specs.Char.{digit_char};
 ghost use Rattle.text.specs.Hex.{hex_digit_of, is_hex_pairs, hex_bytes, hex_text, HexAnswer, Keeps, HexReadsBack};
 ghost use Rattle.text.specs.declared.hex.HexError.TheVariants.{Alloc};
 
@@ -60,6 +61,31 @@ pub fn push_word<'a>(out: &mut Vec<u8>, word: &'a [u8]) -> Result<(), HexError<'
     Ok(())
 }
 
+// A hex digit in lower case.
+fn digit_text(d: u8) -> &'static str
+    requires { d < 16 }
+    ensures { result.now ≡ digit_char d ∷ [] }
+{
+    match d {
+        0 => "0",
+        1 => "1",
+        2 => "2",
+        3 => "3",
+        4 => "4",
+        5 => "5",
+        6 => "6",
+        7 => "7",
+        8 => "8",
+        9 => "9",
+        10 => "a",
+        11 => "b",
+        12 => "c",
+        13 => "d",
+        14 => "e",
+        _ => "f",
+    }
+}
+
 // Bytes as two lower-case hex digits each, with one blank between them.
 #[derive(Clone, Copy)]
 pub struct Hex<'a>(pub &'a [u8]);
@@ -72,9 +98,12 @@ impl fmt::Display for Hex<'_> {
         let &[first, ref others @ ..] = self.0 else {
             return Ok(());
         };
-        write!(f, "{first:02x}")?;
+        f.write_str(digit_text(first / 16))?;
+        f.write_str(digit_text(first % 16))?;
         for &b in others {
-            write!(f, " {b:02x}")?;
+            f.write_str(" ")?;
+            f.write_str(digit_text(b / 16))?;
+            f.write_str(digit_text(b % 16))?;
         }
         Ok(())
     }
