@@ -1,4 +1,5 @@
 pub mod Folding
+pub mod Keeping
 pub mod Padding
 pub mod Pairing
 pub mod Pointing

@@ -1,7 +1,7 @@
 // Bytes in hexadecimal digits.
 ghost use Rattle.std.specs.Prelude.{◌≡◌, ◌<◌, [], ◌∷◌, ◌++◌, is_ok, if◌then◌else◌, Some, string_bytes, MatchResult};
 ghost use Rattle.std.specs.Char.{digit_char};
-ghost use Rattle.text.specs.Hex.{hex_digit_of, is_hex_pairs, hex_bytes, hex_text, HexAnswer, Keeps, HexReadsBack};
+ghost use Rattle.text.specs.Hex.{hex_digit_of, is_hex_pairs, hex_bytes, hex_pair, hex_text, HexAnswer, Keeps, HexReadsBack};
 ghost use Rattle.text.specs.declared.hex.HexError.TheVariants.{Alloc};
 
 use std::alloc::AllocError;
@@ -109,13 +109,28 @@ impl fmt::Display for Hex<'_> {
     }
 }
 
+// Puts a byte's two hex digits behind `out`.
+fn push_byte(out: &mut String, b: u8) -> Result<(), AllocError>
+    ensures { MatchResult result (λ _. string_bytes out.new ≡ string_bytes out.old ++ hex_pair b) (λ _. Keeps (string_bytes out.old) (string_bytes out.new)) }
+{
+    out.push_str(digit_text(b / 16))?;
+    out.push_str(digit_text(b % 16))
+}
+
 // Puts what `Hex` shows behind `out`. Where memory is short, `out` still begins with what it had.
 pub fn push_hex(out: &mut String, bytes: &[u8]) -> Result<(), AllocError>
     ensures { MatchResult result (λ _. string_bytes out.new ≡ string_bytes out.old ++ hex_text bytes.now) (λ _. Keeps (string_bytes out.old) (string_bytes out.new)) }
 {
-    // put behind `out` as a whole: where a `write!` fails, what `out` holds is not said
-    let hex = format!(in *out.allocator(); "{}", Hex(bytes))?;
-    out.push_str(hex.as_str())
+    // digit by digit: where a `write!` fails, what `out` holds is not said
+    let &[first, ref others @ ..] = bytes else {
+        return Ok(());
+    };
+    push_byte(out, first)?;
+    for &b in others {
+        out.push_str(" ")?;
+        push_byte(out, b)?;
+    }
+    Ok(())
 }
 
 // What `Hex` shows, `push_word` reads back word by word.
