@@ -8,3 +8,4 @@ pub mod Reading
 pub mod Returning
 pub mod Showing
 pub mod Wording
+pub mod Writing

@@ -67,10 +67,3 @@ pub more_shown : (first bs : List ℕ) (i : ℕ) → i < length bs → (first ++
 more_shown first bs i h =
     let more : blank_pairs (take (i + 1) bs) ≡ blank_pairs (take i bs) ++ (32 ∷ hex_pair (get_or bs i 0)) = ap blank_pairs (take_more bs i 0 h) ∙ blank_pairs-push (take i bs) (get_or bs i 0) in
     rw more (append_assoc first (blank_pairs (take i bs)) (32 ∷ hex_pair (get_or bs i 0)))
-
--- the same behind a text
-pub more_behind : (start before mid after first bs : List ℕ) (i : ℕ) → i < length bs → before ≡ start ++ (first ++ blank_pairs (take i bs)) → mid ≡ before ++ (32 ∷ []) → after ≡ mid ++ hex_pair (get_or bs i 0) → after ≡ start ++ (first ++ blank_pairs (take (i + 1) bs))
-more_behind start before mid after first bs i h p q r =
-    let shown = first ++ blank_pairs (take i bs) in
-    let pair = hex_pair (get_or bs i 0) in
-    rw (r, q, p) (append_assoc (start ++ shown) (32 ∷ []) pair ∙ append_assoc start shown (32 ∷ pair) ∙ ap (λ (l : List ℕ). start ++ l) (more_shown first bs i h))

@@ -61,7 +61,7 @@ pub fn push_word<'a>(out: &mut Vec<u8>, word: &'a [u8]) -> Result<(), HexError<'
     Ok(())
 }
 
-// A hex digit in lower case.
+// A hex digit in lower case, as a text.
 fn digit_text(d: u8) -> &'static str
     requires { d < 16 }
     ensures { result.now ≡ digit_char d ∷ [] }
@@ -109,12 +109,21 @@ impl fmt::Display for Hex<'_> {
     }
 }
 
+// A hex digit in lower case, as a character: a `String` takes one faster than a text.
+fn digit_char(d: u8) -> char
+    requires { d < 16 }
+    ensures value { result ≡ digit_char d }
+    ensures ascii { result < 128 }
+{
+    char::from(if d < 10 { b'0' + d } else { b'a' + (d - 10) })
+}
+
 // Puts a byte's two hex digits behind `out`.
 fn push_byte(out: &mut String, b: u8) -> Result<(), AllocError>
     ensures { MatchResult result (λ _. string_bytes out.new ≡ string_bytes out.old ++ hex_pair b) (λ _. Keeps (string_bytes out.old) (string_bytes out.new)) }
 {
-    out.push_str(digit_text(b / 16))?;
-    out.push_str(digit_text(b % 16))
+    out.push(digit_char(b / 16))?;
+    out.push(digit_char(b % 16))
 }
 
 // Puts what `Hex` shows behind `out`. Where memory is short, `out` still begins with what it had.
@@ -127,7 +136,7 @@ pub fn push_hex(out: &mut String, bytes: &[u8]) -> Result<(), AllocError>
     };
     push_byte(out, first)?;
     for &b in others {
-        out.push_str(" ")?;
+        out.push(' ')?;
         push_byte(out, b)?;
     }
     Ok(())
