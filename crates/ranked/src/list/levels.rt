@@ -1,5 +1,5 @@
 // The levels of a ranked list.
-ghost use Rattle.std.specs.Prelude.{◌≡◌, ◌-◌, ◌<◌, ◌≤◌, length, sum_by, take, Some};
+ghost use Rattle.std.specs.Prelude.{◌≡◌, ◌-◌, ◌<◌, ◌≤◌, length, take, Some};
 ghost use Rattle.ranked.specs.Level.{level_at, level_with, fills, filled_from, filled_level};
 ghost use Rattle.ranked.specs.Totals.{total};
 ghost use Rattle.ranked.specs.View.{entries, count, room};
@@ -9,9 +9,10 @@ use super::RankedList;
 use crate::rank::{Fill, Rank};
 
 // The contracts of some entries.
+#[tactic(auto, using(crate::proofs::Levels::total_is))]
 fn sum<T: Fill>(entries: &[T]) -> u64
     requires { length entries.now ≤ 512 }
-    ensures { result ≡ sum_by T.size entries.now }
+    ensures { result ≡ total T.size entries.now }
 {
     entries.iter().map(|x| u64::from(x.contracts())).sum()
 }
