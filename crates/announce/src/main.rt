@@ -140,6 +140,7 @@ fn run(rt: &HostRuntime) -> anyhow::Result<()> {
         bad: 0,
     };
     sender.send(rt)?;
+    // every line into one Vec: `split` makes one for each, and takes twice the time over blank lines
     for number in 1..u64::MAX {
         line.clear();
         if input.read_until(b'\n', &mut line)? == 0 {

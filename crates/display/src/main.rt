@@ -42,6 +42,7 @@ fn run(rt: &HostRuntime) -> anyhow::Result<()> {
     let mut line = Vec::new(rt.alloc());
     let mut frame = Vec::new(rt.alloc());
     let mut frames: u64 = 0;
+    // every line into one Vec: `split` makes one for each, and takes twice the time over blank lines
     for number in 1..u64::MAX {
         line.clear();
         frame.clear();
