@@ -131,7 +131,8 @@ impl Sender {
 }
 
 fn run(rt: &HostRuntime) -> anyhow::Result<()> {
-    let input = BufReader::new(rt.alloc(), rt.stdin())?;
+    let mut input = BufReader::new(rt.alloc(), rt.stdin())?;
+    let mut line = Vec::new(rt.alloc());
     let mut sender = Sender {
         buffer: [0; MAX_FRAME],
         messages: 0,
@@ -139,8 +140,17 @@ fn run(rt: &HostRuntime) -> anyhow::Result<()> {
         bad: 0,
     };
     sender.send(rt)?;
-    for (number, line) in (1..u64::MAX).zip(input.split(rt.alloc(), b'\n')) {
-        sender.take(rt, number, line?.as_slice())?;
+    // every line into one Vec: `split` makes one for each, and takes twice the time over blank lines
+    for number in 1..u64::MAX {
+        line.clear();
+        if input.read_until(b'\n', &mut line)? == 0 {
+            break;
+        }
+        let text = match line.as_slice() {
+            [text @ .., b'\n'] => text,
+            text => text,
+        };
+        sender.take(rt, number, text)?;
     }
     sender.send(rt)?;
     eprintln!(rt;

@@ -1,8 +1,33 @@
 // Bytes as text: each printable byte as its character, any other in hex.
-ghost use Rattle.std.specs.Prelude.{Some};
-ghost use Rattle.board.specs.Lines.{letter_text, word_text, condition_text};
+ghost use Rattle.std.specs.Prelude.{◌≡◌, ◌<◌, [], ◌∷◌, Some};
+ghost use Rattle.board.specs.Lines.{capital_digit, letter_text, word_text, condition_text};
 
 use std::fmt;
+
+// A hex digit in upper case.
+fn digit_text(d: u8) -> &'static str
+    requires { d < 16 }
+    ensures { result.now ≡ capital_digit d ∷ [] }
+{
+    match d {
+        0 => "0",
+        1 => "1",
+        2 => "2",
+        3 => "3",
+        4 => "4",
+        5 => "5",
+        6 => "6",
+        7 => "7",
+        8 => "8",
+        9 => "9",
+        10 => "A",
+        11 => "B",
+        12 => "C",
+        13 => "D",
+        14 => "E",
+        _ => "F",
+    }
+}
 
 // A byte as its character if it is printable, else as `\xNN`.
 #[derive(Clone, Copy)]
@@ -15,7 +40,11 @@ impl fmt::Display for Letter {
         let b = self.0;
         match b {
             0x20..=0x7e => f.write_char(char::from(b)),
-            _ => write!(f, "\\x{b:02X}"),
+            _ => {
+                f.write_str("\\x")?;
+                f.write_str(digit_text(b / 16))?;
+                f.write_str(digit_text(b % 16))
+            }
         }
     }
 }

@@ -38,13 +38,22 @@ fn show(rt: &HostRuntime, number: u64, frame: &[u8]) -> anyhow::Result<()> {
 }
 
 fn run(rt: &HostRuntime) -> anyhow::Result<()> {
-    let input = BufReader::new(rt.alloc(), rt.stdin())?;
+    let mut input = BufReader::new(rt.alloc(), rt.stdin())?;
+    let mut line = Vec::new(rt.alloc());
     let mut frame = Vec::new(rt.alloc());
     let mut frames: u64 = 0;
-    for (number, line) in (1..u64::MAX).zip(input.split(rt.alloc(), b'\n')) {
-        let line = line?;
+    // every line into one Vec: `split` makes one for each, and takes twice the time over blank lines
+    for number in 1..u64::MAX {
+        line.clear();
         frame.clear();
-        match read_hex(&mut frame, line.as_slice()) {
+        if input.read_until(b'\n', &mut line)? == 0 {
+            break;
+        }
+        let text = match line.as_slice() {
+            [text @ .., b'\n'] => text,
+            text => text,
+        };
+        match read_hex(&mut frame, text) {
             Ok(()) if frame.is_empty() => {}
             Ok(()) => {
                 frames = frames.saturating_add(1);

@@ -36,7 +36,8 @@ pub fn is_letter(b: u8) -> bool
     matches!(b, b'G' | b'O' | b'H' | b'V')
 }
 
-// One message of a frame: where it begins, and its bytes.
+// One message of a frame: where it begins, and its bytes. Its calls take it by value: behind a reference it is laid in
+// memory, and a message is read more slowly.
 #[derive(Clone, Copy)]
 struct Part<'a> {
     place: usize,
@@ -47,8 +48,8 @@ struct Part<'a> {
 
 impl<'a> Part<'a> {
     // A fault that lies so many bytes behind its beginning.
-    fn fault(&self, reason: Reason, behind: u8) -> Fault
-        ensures { result ≡ fault_at reason (self.now.place + behind) }
+    fn fault(self, reason: Reason, behind: u8) -> Fault
+        ensures { result ≡ fault_at reason (self.entry.place + behind) }
     {
         Fault {
             reason,
@@ -58,10 +59,10 @@ impl<'a> Part<'a> {
 
     // What is wrong with it, if it has a layout of `n` bytes. Symbol and letter are named by their places, as `read` names every field.
     #[tactic(auto, unfolding(crate::specs::Layouts::flaw))]
-    fn check(&self, n: usize) -> Result<(), Fault>
+    fn check(self, n: usize) -> Result<(), Fault>
         requires { 27 ≤ n }
-        ensures value { result ≡ checked (flaw n self.now.bytes.now self.now.place) tt }
-        ensures long { IfOk result (λ _. n ≤ length self.now.bytes.now) }
+        ensures value { result ≡ checked (flaw n self.entry.bytes.now self.entry.place) tt }
+        ensures long { IfOk result (λ _. n ≤ length self.entry.bytes.now) }
     {
         if self.bytes.len() < n {
             return Err(self.fault(Reason::Short, 0));
@@ -76,9 +77,9 @@ impl<'a> Part<'a> {
     }
 
     // What it tells by its type.
-    fn message(&self) -> Result<Message<'a>, Fault>
-        ensures answer { heard result ≡ published self.now.bytes.now self.now.place }
-        ensures lent { IfOk result (λ x. LentAt self.now.bytes.ref_ptr.0 self.now.bytes.ref_ptr.1 x) }
+    fn message(self) -> Result<Message<'a>, Fault>
+        ensures answer { heard result ≡ published self.entry.bytes.now self.entry.place }
+        ensures lent { IfOk result (λ x. LentAt self.entry.bytes.ref_ptr.0 self.entry.bytes.ref_ptr.1 x) }
     {
         // each message is made in its arm: one that comes in a `Result` of its own type is copied, and reading is slower
         match self.bytes[1] {

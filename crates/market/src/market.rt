@@ -9,13 +9,14 @@ pub type Prices = (Option<u64>, Option<u64>);
 pub trait OutsideMarket {
     ghost means: { Self → Pair };
 
+    // Each side that is there is a market price. It stands above the calls, as data, so that a `dyn` market has it too and
+    // a clause can name it.
+    ghost fit: { Fit means };
+
     // The bid and the offer.
     fn ask(&self) -> Prices
         ensures answer { result ≡ means self.now }
         ensures unchanged { self.exit.now ≡ self.entry.now };
-
-    // Each side that is there is a market price.
-    ghost fit: { Fit means };
 }
 
 // A market that is lent is that market.

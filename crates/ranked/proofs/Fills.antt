@@ -1,7 +1,8 @@
 -- Fills from a place on, share by share, and that they keep the order of rank.
-use Rattle.std.proofs.Common.{◌≡◌, ℕ, zero, suc, ◌-◌, ◌<◌, ◌≤◌, Bool, not, ◌&&◌, List, [], ◌∷◌, ◌++◌, length, get_or, take, drop, set, sym, refl, ap, ◌∙◌, arith}
+use Rattle.std.proofs.Common.{◌≡◌, ℕ, zero, suc, ◌-◌, ◌<◌, ◌≤◌, Bool, not, ◌&&◌, List, [], ◌∷◌, ◌++◌, length, get_or, take, drop, set, None, ⊎_elim, sym, refl, ap, ◌∙◌, arith}
 use borrow.Rule.Slice.PartMut.{put_mid}
-use Rattle.std.specs.List.{list_all, between}
+use Rattle.std.specs.List.{list_all, between, slice_get}
+use Rattle.std.proofs.lemmas.Option.{slice_get_cases}
 use Rattle.std.proofs.lemmas.List.{take-append-drop, take_at}
 use Rattle.std.proofs.lemmas.List.Edits.{length-between}
 use Rattle.ranked.specs.Level.{level_at, fills, filled_from, filled_level}
@@ -36,13 +37,14 @@ fills_front f (x ∷ xs) (suc k) [] = ap (λ ys. x ∷ ys) (sym (take-append-dro
 fills_front f (x ∷ xs) (suc k) (n ∷ ns) = ap (λ ys. f x n ∷ ys) (fills_front f xs k ns)
 
 -- a part from a place on, filled
-filled_part : {X : Type 0} (f : X → ℕ → X) (at size : ℕ) (xs : List X) (ns : List ℕ) (p : List X) → p ≡ fills f (take size (drop at xs)) ns → put_mid at size xs p ≡ filled_from f at (take size ns) xs
+pub filled_part : {X : Type 0} (f : X → ℕ → X) (at size : ℕ) (xs : List X) (ns : List ℕ) (p : List X) → p ≡ fills f (take size (drop at xs)) ns → put_mid at size xs p ≡ filled_from f at (take size ns) xs
 filled_part f at size xs ns p e = ap (λ ys. take at xs ++ (ys ++ drop size (drop at xs))) e ∙ ap (λ ys. take at xs ++ ys) (sym (fills_front f (drop at xs) size ns))
 
--- past the end nothing is filled
-pub filled_past : {X : Type 0} (b : X → X → Bool) (f : X → ℕ → X) (at : ℕ) (xs : List X) (ns : List ℕ) → length xs ≤ at → filled_level b f at ns xs ≡ xs
-filled_past b f at xs ns le =
-    ap (λ l. filled_from f at (take (length l) ns) xs) (sym (level_none b xs at le)) ∙ ap (λ ys. take at xs ++ ys) (fills_none f (drop at xs)) ∙ take-append-drop at xs
+-- where nothing stands at the place nothing is filled
+pub filled_past : {X : Type 0} (b : X → X → Bool) (f : X → ℕ → X) (at : ℕ) (xs : List X) (ns : List ℕ) → None ≡ slice_get xs at → xs ≡ filled_level b f at ns xs
+filled_past b f at xs ns none =
+    let le : length xs ≤ at = ⊎_elim (λ p. absurd (let q = none ∙ p.2 in cc)) (λ p. p.0) (slice_get_cases xs at).1 in
+    sym (ap (λ l. filled_from f at (take (length l) ns) xs) (sym (level_none b xs at le)) ∙ ap (λ ys. take at xs ++ ys) (fills_none f (drop at xs)) ∙ take-append-drop at xs)
 
 length-fills : {X : Type 0} (f : X → ℕ → X) (xs : List X) (ns : List ℕ) → length (fills f xs ns) ≡ length xs
 length-fills f [] ns = refl
@@ -54,14 +56,14 @@ length-filled f zero ns xs = length-fills f xs ns
 length-filled f (suc at) ns [] = length-fills f [] ns
 length-filled f (suc at) ns (x ∷ xs) = ap suc (length-filled f at ns xs)
 
--- a list whose level from a place on is filled, before the places behind it
+-- entries of which the part that is a place's level was filled are the list whose level is filled
 pub filled_front :
-    {X : Type 0} (b : X → X → Bool) (f : X → ℕ → X) (at end n : ℕ) (xs rest : List X) (ns : List ℕ) (p : List X) → length xs ≡ n → end ≤ n →
-    between at end xs ≡ level_at b at xs → p ≡ fills f (between at end xs) ns → take n (put_mid at (end - at) xs p ++ rest) ≡ filled_level b f at ns xs
-filled_front b f at end n xs rest ns p l le part e =
-    let size : end - at ≡ length (level_at b at xs) = omega (arith, ap length part, length-between xs at end (omega arith)) in
-    let q : put_mid at (end - at) xs p ≡ filled_level b f at ns xs = filled_part f at (end - at) xs ns p e ∙ ap (λ k. filled_from f at (take k ns) xs) size in
-    take_at (put_mid at (end - at) xs p) rest n (ap length q ∙ length-filled f at (take (length (level_at b at xs)) ns) xs ∙ l) ∙ q
+    {X : Type 0} (b : X → X → Bool) (f : X → ℕ → X) (at from end n : ℕ) (xs rest new : List X) (ns : List ℕ) → length xs ≡ n → new ≡ filled_from f from (take (end - from) ns) xs →
+    between from end xs ≡ level_at b from xs → end ≤ n → from ≡ at → take n (new ++ rest) ≡ filled_level b f at ns xs
+filled_front b f at from end n xs rest new ns l e part le here =
+    let size : end - from ≡ length (level_at b from xs) = omega (arith, ap length part, length-between xs from end (omega arith)) in
+    let q : new ≡ filled_level b f from ns xs = e ∙ ap (λ k. filled_from f from (take k ns) xs) size in
+    take_at new rest n (ap length q ∙ length-filled f from (take (length (level_at b from xs)) ns) xs ∙ l) ∙ q ∙ ap (λ i. filled_level b f i ns xs) here
 
 module _ {X : Type 0} (b : X → X → Bool) (f : X → ℕ → X) (keeps : (x y : X) (n : ℕ) → (b (f x n) y ≡ b x y) × (b y (f x n) ≡ b y x)) where
   pass_fills : (z : X) (xs : List X) (ns : List ℕ) → list_all (λ y. not (b y z)) (fills f xs ns) ≡ list_all (λ y. not (b y z)) xs

@@ -4,7 +4,9 @@ use Rattle.std.specs.List.{list_all, prefix_len, slice_get, sum_by, between}
 use Rattle.std.specs.List.Sorted.{IsPartitionedBy, IsPartitionPoint}
 use Rattle.std.proofs.lemmas.List.{at_drop_all}
 use Rattle.std.proofs.lemmas.List.Recursion.{is_sum_by}
-use Rattle.std.proofs.lemmas.List.Sums.{prefix_len_is, AllPass-from_list_all}
+use Rattle.std.proofs.lemmas.List.Sums.{prefix_len_is, prefix_len_passes, prefix_len_stops, AllPass-from_list_all}
+use Rattle.std.proofs.lemmas.List.Edits.{get_or-between, length-between}
+use Rattle.std.proofs.Math.Nat.{lt_of_not-le}
 use Rattle.std.proofs.lemmas.Bool.{cond-true, cond-false, cond_both, cases_Bool, and_parts, and_left, not-true, not_from_true, not_from_false, both_ways}
 use Rattle.ranked.specs.Level.{not_worse, first_level, level_at, level_with}
 use Rattle.ranked.specs.Order.{level, entered, in_its_place, in_rank}
@@ -156,6 +158,39 @@ module _ {X : Type 0} (b : X → X → Bool) (apart : (x y : X) → b x y ≡ tr
   level_there at end x xs h e p =
       let r = level_is at x xs h e in
       (omega (arith, p, r.0), (λ i. between at (p i) xs) ∙ r.1)
+
+  -- what stands at a place and is not beaten comes before the end of all that is not
+  pub before_end : (x : X) (xs : List X) (i : ℕ) (y : X) → in_rank b xs ≡ true → i < length xs → y ≡ get_or xs i y → false ≡ b x y → i < prefix_len (λ z. not (b x z)) xs
+  before_end x xs i y h lt is f = lt_of_not-le
+      (λ le. both_ways (not (b x (get_or xs (prefix_len (λ z. not (b x z)) xs) y))) (prefix_len_stops (λ z. not (b x z)) xs y (omega (arith, le)))
+      (parted x xs h (prefix_len (λ z. not (b x z)) xs) i y le lt (not_from_false (b x (get_or xs i y)) (sym (f ∙ ap (b x) is)))))
+
+  -- and what is beaten does not
+  pub end_before : (x : X) (xs : List X) (i : ℕ) (y : X) → y ≡ get_or xs i y → true ≡ b x y → prefix_len (λ z. not (b x z)) xs ≤ i
+  end_before x xs i y is t =
+      let l : prefix_len (λ z. not (b x z)) xs < suc i = lt_of_not-le
+      (λ lt. both_ways (not (b x (get_or xs i y))) (not_from_true (b x (get_or xs i y)) (sym (t ∙ ap (b x) is))) (prefix_len_passes (λ z. not (b x z)) xs i y (omega (arith, lt)))) in
+      omega (arith, l)
+
+  -- the end of what is not beaten, looked for in a part that it lies in
+  pub end_in_part :
+      (x : X) (xs : List X) (i j k : ℕ) → in_rank b xs ≡ true → i ≤ prefix_len (λ y. not (b x y)) xs → prefix_len (λ y. not (b x y)) xs ≤ j → j ≤ length xs →
+      k ≤ length (between i j xs) →
+      (IsPartitionedBy (λ y. not (b x y)) (between i j xs) → IsPartitionPoint (λ y. not (b x y) ≡ true) (λ y. not (b x y) ≡ false) (between i j xs) k) →
+      i + k ≡ prefix_len (λ y. not (b x y)) xs
+  end_in_part x xs i j k h low high le short found =
+      let n = prefix_len (λ y. not (b x y)) xs in
+      let l : length (between i j xs) ≡ j - i = length-between xs i j le in
+      let here : (m : ℕ) (d : X) → i + m < j → not (b x (get_or (between i j xs) m d)) ≡ not (b x (get_or xs (i + m) d)) = λ m d lt. ap (λ y. not (b x y)) (get_or-between xs i j m d lt) in
+      let point = found (λ m o d lm lo t. here m d (omega (arith, lm, lo, l)) ∙ parted x xs h (i + m) (i + o) d (omega (arith, lm)) (omega (arith, lo, l)) (sym (here o d (omega (arith, lo, l))) ∙ t)) in
+      let not_past : i + k < suc n = lt_of_not-le
+      (λ lt. let m : i + (n - i) ≡ n = omega (arith, low) in
+      both_ways (not (b x (get_or xs n x))) (prefix_len_stops (λ y. not (b x y)) xs x (omega (arith, lt, short, l)))
+      (ap (λ o. not (b x (get_or xs o x))) (sym m) ∙ sym (here (n - i) x (omega (arith, lt, short, l))) ∙ point.0 (n - i) x (omega arith) (omega (arith, lt)))) in
+      let not_before : n < suc (i + k) = lt_of_not-le
+      (λ lt. both_ways (not (b x (get_or xs (i + k) x))) (sym (here k x (omega (arith, lt, high))) ∙ point.1 k x (omega arith) (omega (arith, lt, high, l)))
+      (prefix_len_passes (λ y. not (b x y)) xs (i + k) x (omega (arith, lt)))) in
+      omega (arith, not_past, not_before)
 
   pub level_whole : (at : ℕ) (xs : List X) → in_rank b xs ≡ true → level_at b at xs ≡ level_with b at xs
   level_whole zero [] h = refl

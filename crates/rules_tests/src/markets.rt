@@ -1,6 +1,8 @@
 // What outside markets answer and refuse at the edges.
+ghost use Rattle.market.specs.Market.{Side};
+
 use away::{AwayBid, AwayBoard, AwayOffer};
-use market::{CutOff, LivePair, NoMarket, OutsideMarket, Refusal, Tighter, composite};
+use market::{CutOff, LivePair, NoMarket, OutsideMarket, Prices, Refusal, Tighter, composite};
 
 // Two constants, since a constant has one type.
 const NO_BID: AwayBid = AwayBid {
@@ -155,4 +157,25 @@ fn pile_by_value(rt: HostRuntime) {
     assert_eq!(rt; pile.ask(), (Some(11_500), None));
     pile.one.close();
     assert_eq!(rt; composite(None, Some(11_800), &pile), (None, Some(11_800)));
+}
+
+// What a market of any kind answers.
+fn prices_of(market: &dyn OutsideMarket) -> Prices
+    ensures bid { Side result.0 }
+    ensures offer { Side result.1 }
+{
+    market.ask()
+}
+
+// A market whose kind is not known answers as it does, and its prices are known to be fit.
+#[test]
+fn any_kind(rt: HostRuntime) {
+    let mut live = LivePair::new();
+    assert_eq!(rt; prices_of(&live), (None, None));
+    assert_eq!(rt; live.set(Some(300), Some(700)), Ok(()));
+    let pile = Tighter {
+        one: CutOff::new(NoMarket),
+        other: live,
+    };
+    assert_eq!(rt; prices_of(&pile), (Some(300), Some(700)));
 }

@@ -19,6 +19,16 @@ fn shared<S: SharingRule>(rule: &S, n: u64, claims: &[Claim; 3]) -> Result<[u32;
     Ok(shares)
 }
 
+// What a rule of any kind gives three claims.
+fn shared_by(rule: &dyn SharingRule, n: u64, claims: &[Claim; 3]) -> Result<[u32; 3], Refusal>
+    ensures answer { result_err result ≡ ask_refusal claims.now 3 }
+    ensures whole { IfOk result (λ shares. sum shares ≡ min n (sum (sizes claims.now))) }
+{
+    let mut shares = [9; 3];
+    rule.share(n, claims, &mut shares)?;
+    Ok(shares)
+}
+
 // Three claims.
 fn claims_of(sizes: [u32; 3]) -> [Claim; 3] {
     sizes.map(|size| Claim { size })
@@ -61,6 +71,16 @@ fn three_claims(rt: HostRuntime) {
         assert_eq!(rt; shared(&ProRata, 10, &claims), Err(Refusal::Unfit));
     }
     assert_eq!(rt; Refusal::Unfit.number(), 40);
+}
+
+// A rule whose kind is not known gives as it does, and is known to give all of n that is claimed.
+#[test]
+fn any_kind(rt: HostRuntime) {
+    let claims = claims_of([7, 7, 7]);
+    assert_eq!(rt; shared_by(&Arrival, 10, &claims), Ok([7, 3, 0]));
+    assert_eq!(rt; shared_by(&ProRata, 10, &claims), Ok([4, 3, 3]));
+    let claims = claims_of([7, 100_001, 7]);
+    assert_eq!(rt; shared_by(&ProRata, 10, &claims), Err(Refusal::Unfit));
 }
 
 // An ask: how many claims of which size, n, how many places, and if it is fit, how many of the places are full and what

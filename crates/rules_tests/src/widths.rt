@@ -1,4 +1,6 @@
 // What width rules answer at the edges.
+ghost use Rattle.std.specs.Prelude.{◌≤◌};
+
 use std::process::Abort;
 use std::test::Fail;
 use width::{Flat, Multiplied, Refusal, Table, WidthRule, is_too_wide};
@@ -33,6 +35,22 @@ fn multiplied(rt: &impl Abort, width: u64, tenths: u64) -> Result<Option<u64>, F
             Ok(None)
         }
     }
+}
+
+// The width by a rule of any kind.
+fn width_of(rule: &dyn WidthRule, bid: u64) -> u64
+    ensures { result ≤ 1000000 }
+{
+    rule.width(bid)
+}
+
+// A rule whose kind is not known answers as it does, and is known to be no wider than the widest.
+#[test]
+fn any_kind(rt: HostRuntime) -> Result<(), Fail> {
+    assert_eq!(rt; width_of(&Table, 20_000), 8_000);
+    assert_eq!(rt; width_of(&flat(1_000_000)?, 20_000), 1_000_000);
+    assert_eq!(rt; width_of(&times(Table, 100)?, 2_000_100), 1_000_000);
+    Ok(())
 }
 
 // Both ends of each row, a ten-thousandth on either side of them, and up to the next row.

@@ -11,15 +11,16 @@ pub trait SharingRule {
     // The shares of a number of contracts among claims, in the claims' order.
     ghost means: { Self → ℕ → List Claim → List ℕ };
 
+    // No share is above its claim's size, and together they are n or all that is claimed. It stands above the calls, as
+    // data, so that a `dyn` rule has it too and a clause can name it.
+    ghost fair: { Fair means };
+
     // Writes the claims' shares of n into the places brought; nothing where the ask is unfit. Claims and places are two lent
     // slices, so that no memory is taken.
     fn share(&self, n: u64, claims: &[Claim], shares: &mut [u32]) -> Result<(), Refusal>
         ensures answer { result_err result ≡ ask_refusal claims.now (length shares.old) }
         ensures after { shares.new ≡ places_after claims.now (means self.now n claims.now) shares.old }
         ensures unchanged { self.exit.now ≡ self.entry.now };
-
-    // No share is above its claim's size, and together they are n or all that is claimed.
-    ghost fair: { Fair means };
 }
 
 // A rule lent is that rule.

@@ -1,4 +1,5 @@
 pub mod Folding
+pub mod Keeping
 pub mod Padding
 pub mod Pairing
 pub mod Pointing
@@ -7,3 +8,4 @@ pub mod Reading
 pub mod Returning
 pub mod Showing
 pub mod Wording
+pub mod Writing

@@ -1,6 +1,7 @@
 // Bytes in hexadecimal digits.
-ghost use Rattle.std.specs.Prelude.{◌≡◌, [], ◌++◌, is_ok, if◌then◌else◌, Some, string_bytes, MatchResult};
-ghost use Rattle.text.specs.Hex.{hex_digit_of, is_hex_pairs, hex_bytes, hex_text, HexAnswer, Keeps, HexReadsBack};
+ghost use Rattle.std.specs.Prelude.{◌≡◌, ◌<◌, [], ◌∷◌, ◌++◌, is_ok, if◌then◌else◌, Some, string_bytes, MatchResult};
+ghost use Rattle.std.specs.Char.{digit_char};
+ghost use Rattle.text.specs.Hex.{hex_digit_of, is_hex_pairs, hex_bytes, hex_pair, hex_text, HexAnswer, Keeps, HexReadsBack};
 ghost use Rattle.text.specs.declared.hex.HexError.TheVariants.{Alloc};
 
 use std::alloc::AllocError;
@@ -60,6 +61,31 @@ pub fn push_word<'a>(out: &mut Vec<u8>, word: &'a [u8]) -> Result<(), HexError<'
     Ok(())
 }
 
+// A hex digit in lower case, as a text.
+fn digit_text(d: u8) -> &'static str
+    requires { d < 16 }
+    ensures { result.now ≡ digit_char d ∷ [] }
+{
+    match d {
+        0 => "0",
+        1 => "1",
+        2 => "2",
+        3 => "3",
+        4 => "4",
+        5 => "5",
+        6 => "6",
+        7 => "7",
+        8 => "8",
+        9 => "9",
+        10 => "a",
+        11 => "b",
+        12 => "c",
+        13 => "d",
+        14 => "e",
+        _ => "f",
+    }
+}
+
 // Bytes as two lower-case hex digits each, with one blank between them.
 #[derive(Clone, Copy)]
 pub struct Hex<'a>(pub &'a [u8]);
@@ -72,21 +98,48 @@ impl fmt::Display for Hex<'_> {
         let &[first, ref others @ ..] = self.0 else {
             return Ok(());
         };
-        write!(f, "{first:02x}")?;
+        f.write_str(digit_text(first / 16))?;
+        f.write_str(digit_text(first % 16))?;
         for &b in others {
-            write!(f, " {b:02x}")?;
+            f.write_str(" ")?;
+            f.write_str(digit_text(b / 16))?;
+            f.write_str(digit_text(b % 16))?;
         }
         Ok(())
     }
+}
+
+// A hex digit in lower case, as a character: a `String` takes one faster than a text.
+fn digit_char(d: u8) -> char
+    requires { d < 16 }
+    ensures value { result ≡ digit_char d }
+    ensures ascii { result < 128 }
+{
+    char::from(if d < 10 { b'0' + d } else { b'a' + (d - 10) })
+}
+
+// Puts a byte's two hex digits behind `out`.
+fn push_byte(out: &mut String, b: u8) -> Result<(), AllocError>
+    ensures { MatchResult result (λ _. string_bytes out.new ≡ string_bytes out.old ++ hex_pair b) (λ _. Keeps (string_bytes out.old) (string_bytes out.new)) }
+{
+    out.push(digit_char(b / 16))?;
+    out.push(digit_char(b % 16))
 }
 
 // Puts what `Hex` shows behind `out`. Where memory is short, `out` still begins with what it had.
 pub fn push_hex(out: &mut String, bytes: &[u8]) -> Result<(), AllocError>
     ensures { MatchResult result (λ _. string_bytes out.new ≡ string_bytes out.old ++ hex_text bytes.now) (λ _. Keeps (string_bytes out.old) (string_bytes out.new)) }
 {
-    // put behind `out` as a whole: where a `write!` fails, what `out` holds is not said
-    let hex = format!(in *out.allocator(); "{}", Hex(bytes))?;
-    out.push_str(hex.as_str())
+    // digit by digit: where a `write!` fails, what `out` holds is not said
+    let &[first, ref others @ ..] = bytes else {
+        return Ok(());
+    };
+    push_byte(out, first)?;
+    for &b in others {
+        out.push(' ')?;
+        push_byte(out, b)?;
+    }
+    Ok(())
 }
 
 // What `Hex` shows, `push_word` reads back word by word.

@@ -9,13 +9,13 @@ pub trait WidthRule {
     // The width at each bid.
     ghost means: { Self → ℕ → ℕ };
 
+    // No width is over the widest. It stands above the calls, as data, so that a `dyn` rule has it too and a clause can name it.
+    ghost capped: { Capped means };
+
     // The width at a bid.
     fn width(&self, bid: u64) -> u64
         ensures answer { result ≡ means self.now bid }
         ensures unchanged { self.exit.now ≡ self.entry.now };
-
-    // No width is over the widest.
-    ghost capped: { Capped means };
 }
 
 // A rule lent is that rule.

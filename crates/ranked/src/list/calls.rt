@@ -77,7 +77,7 @@ impl<'a, T: Rank + Copy> RankedList<'a, T> {
     }
 
     // How many entries stand before x: all that are better or level.
-    pub(super) fn spot(&self, x: &T) -> usize
+    fn spot(&self, x: &T) -> usize
         ensures within { result ≤ count self.now }
         ensures there { result ≡ prefix_len (λ y. not (T.better x.now y)) (entries self.now) }
     {

@@ -1,4 +1,4 @@
-use Rattle.std.proofs.Common.{◌≡◌, ◌-◌, ◌++◌, take, drop, sym, ap, ◌∙◌, arith}
+use Rattle.std.proofs.Common.{◌≡◌, ◌-◌, ◌++◌, true, take, drop, sym, ap, ◌∙◌, arith, rules}
 use Rattle.std.proofs.lemmas.Grind.{common_steps}
 use Rattle.std.specs.List.{remove}
 use Rattle.ranked.specs.Order.{in_rank}
@@ -15,4 +15,5 @@ invariant_of-self-clause-order g c =
     let b = g.T.Rank.better in
     let l = c.args.self.now in
     let e : take (l.len - 1) (c.close_up.new.entries ++ drop l.len l.places.now) ≡ remove (entries l) c.args.at = grind (arith, common_steps) in
-    ap (in_rank b) e ∙ removed_in_rank b (entries l) c.args.at l.order
+    let kept : in_rank b (take (l.len - 1) (c.close_up.new.entries ++ drop l.len l.places.now)) ≡ true = ap (in_rank b) e ∙ removed_in_rank b (entries l) c.args.at l.order in
+    search rules
